@@ -9,7 +9,7 @@ ghost use Rattle.depot_rows.specs.depot_model.Rules.{IsSound};
 ghost use Rattle.depot_rows.specs.depot_model.Step.{after};
 ghost use Rattle.depot_rows.specs.declared.deed.Deed.{Deed as Done};
 ghost use Rattle.depot_rows.specs.Effects.{Follow};
-ghost use Rattle.depots_alike.specs.Contents.{SameContents};
+ghost use Rattle.depot_facts.specs.Contents.{SameContents};
 ghost use Rattle.sound_requests.specs.Asked.{IsAsked, is_typed};
 
 /// A request whose command, if it has one, is well-formed, whose contents are no longer than a block of a script, and whose parts are of their types

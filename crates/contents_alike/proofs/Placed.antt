@@ -17,8 +17,8 @@ use Rattle.depot_rows.specs.Standing.{Stand}
 use Rattle.depot_rows.proofs.Spelled.{at_path-here}
 use Rattle.recovery.specs.Standing.{HasContents, HasContent}
 use Rattle.recovery.proofs.Landed.{own_content}
-use Rattle.depots_alike.specs.Contents.{SameContents}
-use Rattle.depots_alike.proofs.Nowhere.{no_revisions}
+use Rattle.depot_facts.specs.Contents.{SameContents}
+use Rattle.depot_facts.proofs.Nowhere.{no_revisions}
 use Rattle.depots_alike.proofs.Searches.{by_path, action_in, action_back}
 
 pub same_rows_stand : (rows : AllRows) (d e : List Deed) → Stand rows d → Stand rows e → SameRows d e

@@ -5,7 +5,7 @@ ghost use Rattle.depot_rows.specs.depot_model.Deeds.{Deed};
 ghost use Rattle.depot_rows.specs.depot_model.Records.{SameRows};
 ghost use Rattle.depot_rows.specs.depot_model.Rules.{IsSound};
 ghost use Rattle.depot_rows.specs.Standing.{Stand};
-ghost use Rattle.depots_alike.specs.Contents.{SameContents};
+ghost use Rattle.depot_facts.specs.Contents.{SameContents};
 ghost use Rattle.recovery.specs.Standing.{HasContents};
 ghost use Rattle.depot_rows.specs.table_changes.Changed.{AllRows};
 

@@ -21,7 +21,7 @@ use Rattle.depot_rows.specs.depot_model.Rules.{Rows, KeepRules, IsRow, IsForm, I
 use Rattle.depot_rows.specs.depot_model.declared.filter.FilterRule.{FilterRule}
 use Rattle.depot_rows.specs.Cut.{is_text_inside, is_left, cut_row, cut_rows}
 use Rattle.depot_rows.proofs.Keys.{left-true, right-true}
-use Rattle.sound_deeds.proofs.Unmoved.{and_true}
+use Rattle.depot_facts.proofs.Tests.{both_true}
 use Rattle.cut_depots.proofs.Keyed.{HasKey}
 
 -- ---- what a cut row tells
@@ -156,7 +156,7 @@ module _ (rules : List FilterRule) (before after : Rows) (cuts : (q : Key) → a
 
   module _ (r : IntegedRecord) (to : is_text_inside rules r.to_file ≡ true) (from : is_text_inside rules r.from_file ≡ true) where
     both : (is_text_inside rules r.from_file && is_text_inside rules r.to_file) ≡ true
-    both = and_true (is_text_inside rules r.from_file) (is_text_inside rules r.to_file) from to
+    both = both_true (is_text_inside rules r.from_file) (is_text_inside rules r.to_file) from to
 
     credit_there : (how : How) → IsCredit before r how → IsCredit after r how
     credit_there how h = (

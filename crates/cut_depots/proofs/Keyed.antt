@@ -24,7 +24,8 @@ use Rattle.depot_rows.proofs.ChangeCounter.{change_of}
 use Rattle.depot_rows.proofs.Keys.{at-is, number-is, same-is}
 use Rattle.depot_rows.proofs.Lists.{found_passes}
 use Rattle.depot_rows.proofs.Locks.{IsOf, opened-is}
-use Rattle.sound_deeds.proofs.Tables.{at_each, owed_is, IsOwed}
+use Rattle.depot_facts.proofs.PathTexts.{at_each}
+use Rattle.depot_facts.proofs.Resolves.{owed_is, IsOwed}
 
 abbrev pub HasKey : Key → Record → Type 0
 HasKey q r = key_of r ≡ q

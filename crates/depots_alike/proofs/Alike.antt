@@ -17,7 +17,7 @@ use Rattle.depot_rows.specs.depot_model.Step.{after}
 use Rattle.depot_rows.proofs.Keys.{left-true, right-true}
 use Rattle.row_reads.proofs.Rights.{same_at}
 use Rattle.step_tables.specs.DeedTables.{stays_in}
-use Rattle.depots_alike.specs.Contents.{seen}
+use Rattle.depot_facts.specs.Contents.{seen}
 use Rattle.depots_alike.proofs.Credits.{credited_same}
 use Rattle.depots_alike.proofs.Revisions.{revisions_same}
 use Rattle.depots_alike.proofs.Searches.{have_same, labelled_same, opened_same, spec_same}

@@ -31,7 +31,7 @@ use Rattle.depot_rows.specs.depot_model.Rows.{row, path_field, number_field, tex
 use Rattle.depot_rows.specs.depot_model.Shelves.{is_of_change}
 use Rattle.depot_rows.specs.depot_model.Sorted.{all_inserted}
 use Rattle.depot_rows.specs.depot_model.Step.{Step, nothing, tells, does, refuses, unless, refuse_if, all_of}
-use Rattle.depot_rows.specs.depot_model.Steps.Changing.{files_of_change, landed_by, delete_refusals, change_delete, listable, show_new, openings_in, show_landed, show_numbered, change_show, default_text}
+use Rattle.depot_rows.specs.depot_model.Steps.Changing.{files_of_change, landed_by, change_delete, listable, openings_in, show_landed, change_show, default_text}
 use Rattle.depot_rows.specs.depot_model.Steps.Changing as changing
 use Rattle.depot_rows.specs.depot_model.Steps.Groups.{by_name, group_show}
 use Rattle.depot_rows.specs.depot_model.Steps.History.{seen_paths, dirs_of, dirs_after, dirs, directories, no_dir, dir_row}
@@ -40,7 +40,7 @@ use Rattle.depot_rows.specs.depot_model.Steps.Opening.{is_of}
 use Rattle.depot_rows.specs.depot_model.Steps.Reverting.{not_open, openers_shown, opened_row, opened_files, show_opened, opened_step}
 use Rattle.depot_rows.specs.depot_model.Steps.Submitting.{openings_of}
 use Rattle.depot_rows.specs.depot_model.Values.{value_of}
-use Rattle.depots_alike.specs.Contents.{bare, seen}
+use Rattle.depot_facts.specs.Contents.{bare, seen}
 use Rattle.depots_alike.proofs.Choosing.{may_list_same, shown_same, named_same, is_live_head_same}
 use Rattle.depots_alike.proofs.Files.{fixes_on_same, last_job_same}
 use Rattle.depots_alike.proofs.Lists.{has, one_path_list, some_paths_rise, has_filter, NamesRise, one_name_list, has_inserted, inserted_rises}

@@ -21,7 +21,7 @@ use Rattle.depot_rows.specs.depot_model.Asking.{view, is_client, is_label, may_a
 use Rattle.depot_rows.specs.depot_model.Choice.{Choice, PassedOver, At, made_by_most, made_by, at_or_above_one, chosen_by, chosen, is_live_choice, shown}
 use Rattle.depot_rows.specs.depot_model.Deeds.{Deed, ClientForm, LabelForm}
 use Rattle.depot_rows.specs.depot_model.Revisions.{Revision, revisions, revision, head, is_live, is_live_at, is_live_head, last_passing}
-use Rattle.depots_alike.specs.Contents.{seen}
+use Rattle.depot_facts.specs.Contents.{seen}
 use Rattle.depots_alike.proofs.Alike.{Alike}
 use Rattle.depots_alike.proofs.Revisions.{get_seen}
 

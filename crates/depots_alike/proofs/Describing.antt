@@ -21,7 +21,7 @@ use Rattle.depot_rows.specs.depot_model.Steps.Changing.{form_number, form_text, 
 use Rattle.depot_rows.specs.depot_model.Steps.History.{numbered_from, describe_fields, change_fields, made_in, landed_files, describe_landed, describe_pending, describe}
 use Rattle.depot_rows.specs.depot_model.Steps.Listing.{Numbered}
 use Rattle.depot_rows.specs.depot_model.Steps.Opening.{change_refusal}
-use Rattle.depots_alike.specs.Contents.{bare, seen}
+use Rattle.depot_facts.specs.Contents.{bare, seen}
 use Rattle.depots_alike.proofs.Changes.{files_of_change_same}
 use Rattle.depots_alike.proofs.Choosing.{may_list_same}
 use Rattle.depots_alike.proofs.Files.{seen_number}

@@ -25,7 +25,7 @@ use Rattle.depot_rows.specs.depot_model.Steps.Labels.{labels}
 use Rattle.depot_rows.specs.depot_model.Steps.Labels as label_steps
 use Rattle.depot_rows.specs.depot_model.Steps.Listing.{Numbered, numbered, chosen_revision, listed, tells_revision, tells_file, files}
 use Rattle.depot_rows.specs.depot_model.Steps.Opening.{exclusive_refusal, right_refusal, opening_row}
-use Rattle.depots_alike.specs.Contents.{seen}
+use Rattle.depot_facts.specs.Contents.{seen}
 use Rattle.depots_alike.proofs.Choosing.{view_same, chosen_same, shown_same, named_same, is_live_head_same}
 use Rattle.depots_alike.proofs.Names.{spec_names_same}
 use Rattle.depots_alike.proofs.Paths.{submitted_same, had_same}

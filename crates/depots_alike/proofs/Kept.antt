@@ -5,7 +5,6 @@ use Rattle.std.specs.List.{list_all}
 use Rattle.std.specs.Option.{option_or}
 use Rattle.std.proofs.lemmas.Bool.{true≢false}
 use Rattle.depot_rows.specs.depot_path.Bytes.{same}
-use Rattle.depot_rows.specs.depot_path.Bytes.{is_digit}
 use Rattle.depot_rows.specs.depot_path.Digits.{is_digits}
 use Rattle.depot_rows.specs.depot_path.Path.{printed, is_path}
 use Rattle.depot_rows.specs.depot_path.declared.fault.PathFault.{PathFault}
@@ -20,30 +19,16 @@ use Rattle.depot_rows.specs.depot_model.Rules.{IsSound, has_paths}
 use Rattle.depot_rows.specs.depot_model.Shelves.{shelf_name, paths_in, is_of_change, is_kept, kept, shelf_paths, kept_paths, is_shelved}
 use Rattle.depot_rows.specs.depot_model.Values.{value_of}
 use Rattle.depot_rows.proofs.Keys.{same-self, left-true, right-true}
-use Rattle.sound_deeds.proofs.Read.{spelled_reads, value_is}
-use Rattle.sound_deeds.proofs.Decimals.{decimal_digits}
-use Rattle.sound_form_steps.proofs.Found.{spelled, saved_shelf}
+use Rattle.depot_facts.proofs.Read.{spelled_reads, value_is}
+use Rattle.depot_facts.proofs.Decimals.{decimal_digits, parts_are}
+use Rattle.depot_facts.proofs.Found.{spelled, saved_shelf}
 use Rattle.depots_alike.proofs.Lists.{has, one_path_list, some_paths_rise, has_filter, has_all_inserted}
-use Rattle.sound_form_steps.proofs.Shelving.{paths_in_are, kept_are}
-use Rattle.depots_alike.proofs.Nowhere.{other_path}
+use Rattle.depot_facts.proofs.PathTexts.{paths_in_are}
+use Rattle.depot_facts.proofs.PathsTold.{kept_are}
+use Rattle.depot_facts.proofs.Nowhere.{other_path}
 use Rattle.depots_alike.proofs.Paths.{only_test, paths_rise, same_turned}
 use Rattle.depots_alike.proofs.Searches.{spec_same, by_path}
 use Rattle.depots_alike.proofs.Twins.{Twins}
-
--- digits before a space part a text one way
-pub parts_are : (xs ys a b : List ℕ) → list_all is_digit xs ≡ true → list_all is_digit ys ≡ true → xs ++ 0x20 ∷ a ≡ ys ++ 0x20 ∷ b → (xs ≡ ys) × (a ≡ b)
-parts_are [] [] a b p q e = (refl, cc)
-parts_are [] (y ∷ ys) a b p q e =
-    let one : 0x20 ≡ y = cc in
-    absurd (true≢false (sym (left-true (is_digit y) (list_all is_digit ys) q) ∙ ap is_digit (sym one)))
-parts_are (x ∷ xs) [] a b p q e =
-    let one : x ≡ 0x20 = cc in
-    absurd (true≢false (sym (left-true (is_digit x) (list_all is_digit xs) p) ∙ ap is_digit one))
-parts_are (x ∷ xs) (y ∷ ys) a b p q e =
-    let one : x ≡ y = cc in
-    let more : xs ++ 0x20 ∷ a ≡ ys ++ 0x20 ∷ b = cc in
-    let rest = parts_are xs ys a b (right-true (is_digit x) (list_all is_digit xs) p) (right-true (is_digit y) (list_all is_digit ys) q) more in
-    ((λ i. one i ∷ rest.0 i), rest.1)
 
 -- the paths of shelves rise: each is one that a text spells
 shelves_are : (n : ℕ) (deed : Deed) → has_paths deed ≡ true → list_all is_path (shelf_paths n deed) ≡ true

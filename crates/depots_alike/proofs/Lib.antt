@@ -1,4 +1,3 @@
-pub mod Nowhere
 pub mod Twins
 pub mod Searches
 pub mod Ordered

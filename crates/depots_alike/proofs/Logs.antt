@@ -17,7 +17,7 @@ use Rattle.depot_rows.specs.depot_model.Rows.{row, path_field, number_field, tex
 use Rattle.depot_rows.specs.depot_model.Step.{Step, nothing, tells}
 use Rattle.depot_rows.specs.depot_model.Steps.History.{may_list_text, integrated_row, records_of, integrated, record_fields, log_fields, numbered_from, up_to, log_file, filelog}
 use Rattle.depot_rows.specs.depot_model.Steps.Listing.{Numbered, chosen_revision, listed}
-use Rattle.depots_alike.specs.Contents.{seen}
+use Rattle.depot_facts.specs.Contents.{seen}
 use Rattle.depots_alike.proofs.Describing.{numbers_seen}
 use Rattle.depots_alike.proofs.Files.{seen_number, listed_same, named_submitted, chosen_revision_same}
 use Rattle.depots_alike.proofs.Alike.{alike_of}

@@ -24,7 +24,7 @@ use Rattle.depot_rows.specs.depot_model.Steps.Opening.{held}
 use Rattle.depot_rows.specs.depot_model.Steps.Syncing.{size_of, sync_row, wanted_rev, sync_word, changes_to, sync_have, is_owed, sync_opened, sync_to, sync_file, shows_alone, sync}
 use Rattle.depot_rows.specs.depot_model.Steps.Tagging.{tag_to, tag_file, live_choice, or_labelled, made_label, tagged_rev, tag_files, tag, or_have, synced_rev, labelsync}
 use Rattle.depot_rows.specs.depot_model.Values.{valued}
-use Rattle.depots_alike.specs.Contents.{seen}
+use Rattle.depot_facts.specs.Contents.{seen}
 use Rattle.depots_alike.proofs.Choosing.{view_same, chosen_same, shown_same, is_live_same, is_label_same}
 use Rattle.depots_alike.proofs.Files.{seen_number, listed_same, named_submitted, chosen_revision_same}
 use Rattle.depots_alike.proofs.Revisions.{revision_same}

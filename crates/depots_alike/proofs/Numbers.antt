@@ -19,7 +19,7 @@ use Rattle.depot_rows.specs.depot_model.Refusals.{refusal_row}
 use Rattle.depot_rows.specs.depot_model.Revisions.{Revision, revision}
 use Rattle.depot_rows.specs.depot_model.Step.{tells}
 use Rattle.depot_rows.specs.depot_model.Steps.Changes.{Listed, number_inserted, numbers, listed_pending, listed_landing, is_listable, listed_submitted, listed, change_at, made_of, made_over, is_made, passes, change_row, at_most, missing, changes}
-use Rattle.depots_alike.specs.Contents.{bare, seen}
+use Rattle.depot_facts.specs.Contents.{bare, seen}
 use Rattle.depots_alike.proofs.Alike.{alike_of}
 use Rattle.depots_alike.proofs.Changes.{files_of_change_same}
 use Rattle.depots_alike.proofs.Choosing.{may_list_same, revision_same}

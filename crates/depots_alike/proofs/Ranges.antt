@@ -11,7 +11,7 @@ use Rattle.depot_rows.specs.depot_model.declared.request.Caller.{Caller}
 use Rattle.depot_rows.specs.depot_model.Deeds.{Deed}
 use Rattle.depot_rows.specs.depot_model.Range.{is_up_to, is_from, is_begun, in_range}
 use Rattle.depot_rows.specs.depot_model.Revisions.{Revision, revision}
-use Rattle.depots_alike.specs.Contents.{seen}
+use Rattle.depot_facts.specs.Contents.{seen}
 use Rattle.depots_alike.proofs.Alike.{Alike}
 use Rattle.depots_alike.proofs.Choosing.{chosen_same, head_same, revision_same}
 

@@ -17,8 +17,8 @@ use Rattle.depot_rows.specs.depot_model.Rules.{IsSound, IsSubmitted, IsRow, has_
 use Rattle.depot_rows.specs.depot_model.Steps.Submitting.{content_at}
 use Rattle.depot_rows.proofs.Keys.{number-is, same-is, left-true, right-true}
 use Rattle.depot_rows.proofs.Spelled.{at_path-here}
-use Rattle.depots_alike.specs.Contents.{bare, seen}
-use Rattle.depots_alike.proofs.Nowhere.{no_revisions}
+use Rattle.depot_facts.specs.Contents.{bare, seen}
+use Rattle.depot_facts.proofs.Nowhere.{no_revisions}
 use Rattle.depots_alike.proofs.Searches.{path_in, path_back, action_in, action_back, moved_back, landing_in, by_path}
 use Rattle.depots_alike.proofs.Twins.{Twins}
 

@@ -24,12 +24,11 @@ use Rattle.depot_rows.proofs.Keys.{same-is, same-self, number-is}
 use Rattle.depot_rows.proofs.Locks.{lock_number, lock-unopened}
 use Rattle.depot_rows.proofs.Openings.{lock_shown}
 use Rattle.depot_rows.proofs.Spelled.{at_path-here}
-use Rattle.sound_deeds.proofs.Files.{ArePaths, are_paths}
-use Rattle.sound_deeds.proofs.Read.{spelled_reads}
-use Rattle.sound_deeds.proofs.Tables.{IsOwed, owed_is}
-use Rattle.sound_file_steps.proofs.Known.{IsKnown, opened_known}
-use Rattle.depots_alike.specs.Contents.{bare}
-use Rattle.depots_alike.proofs.Nowhere.{no_have, no_label, no_opening, no_revisions, no_resolve}
+use Rattle.depot_facts.proofs.OpenFiles.{ArePaths, are_paths, opened_paths}
+use Rattle.depot_facts.proofs.Read.{spelled_reads}
+use Rattle.depot_facts.proofs.Resolves.{IsOwed, owed_is}
+use Rattle.depot_facts.specs.Contents.{bare}
+use Rattle.depot_facts.proofs.Nowhere.{no_have, no_label, no_opening, no_revisions, no_resolve}
 use Rattle.depots_alike.proofs.Twins.{Twins}
 
 -- ---- what rows say
@@ -243,7 +242,7 @@ module _ (d : List Deed) (sound : IsSound d) where
     where
       go : (o : Option Opening) → opened d client p ≡ o → opening_in (option_map (working_record d) o) ≡ o
       go None e = refl
-      go (Some o) e = let known : IsKnown d client p o = opened_known d sound client p o e in opening_back d o (are_paths o.path o.moved o.source known.has)
+      go (Some o) e = opening_back d o (are_paths o.path o.moved o.source (opened_paths d sound.paths client p o e))
 
   owed_at : (client p f : List ℕ) → is_path p ≡ true → is_path f ≡ true → resolve_in (record_of d (keys.Resolve client (printed p) (printed f))) ≡ owed d client p f
   owed_at client p f path from =

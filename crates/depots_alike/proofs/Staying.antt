@@ -4,7 +4,7 @@ use Rattle.std.specs.Prelude.{option_and_then, slice_get}
 use Rattle.depot_rows.specs.depot_model.Deeds.{Deed, Land}
 use Rattle.depot_rows.specs.depot_model.Revisions.{Revision, revisions, entries_at}
 use Rattle.depot_rows.specs.depot_model.Step.{after}
-use Rattle.depots_alike.specs.Contents.{SameContents, seen}
+use Rattle.depot_facts.specs.Contents.{SameContents, seen}
 use Rattle.depots_alike.proofs.Revisions.{revisions_same}
 use Rattle.depots_alike.proofs.Twins.{Twins}
 

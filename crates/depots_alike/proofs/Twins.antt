@@ -3,7 +3,7 @@ use Rattle.std.proofs.Common.{List, sym}
 use Rattle.depot_rows.specs.depot_model.Deeds.{Deed}
 use Rattle.depot_rows.specs.depot_model.Records.{SameRows}
 use Rattle.depot_rows.specs.depot_model.Rules.{IsSound}
-use Rattle.depots_alike.specs.Contents.{SameContents}
+use Rattle.depot_facts.specs.Contents.{SameContents}
 
 pub record Twins (d e : List Deed) : Type 0 where
   pub left : IsSound d

@@ -10,7 +10,7 @@ ghost use Rattle.depot_rows.specs.depot_model.Rules.{IsSound};
 ghost use Rattle.depot_rows.specs.depot_model.Step.{after};
 ghost use Rattle.depot_rows.specs.declared.deed.Deed.{Deed as Done};
 ghost use Rattle.depot_rows.specs.Effects.{Follow};
-ghost use Rattle.depots_alike.specs.Contents.{SameContents};
+ghost use Rattle.depot_facts.specs.Contents.{SameContents};
 
 /// Over two sound depots with the same rows and contents the step of every request is the same: the same deeds, and the
 /// same rows of the reply. Where these deeds may follow the one depot, both have the same rows after them; and after the same deeds both have the

@@ -18,7 +18,7 @@ use Rattle.depot_rows.specs.depot_model.Records.{unplaced}
 use Rattle.depot_rows.specs.Standing.{unplaced_at}
 use Rattle.depot_rows.proofs.Entries.{In}
 use Rattle.depot_rows.proofs.Keys.{at-is}
-use Rattle.sound_landing.proofs.Listed.{in_append, in_filter, in_flat, found_in}
+use Rattle.depot_facts.proofs.Listed.{in_append, in_filter, in_flat, found_in}
 use Rattle.journal_groups.specs.Groups.{IsGroup}
 use Rattle.record_text.specs.Grammar.{IsRecord}
 use Rattle.disk_journal.specs.Images.{Committed}

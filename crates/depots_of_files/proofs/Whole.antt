@@ -18,7 +18,7 @@ use Rattle.depot_rows.specs.depot_model.Rows.{action_word}
 use Rattle.depot_rows.specs.depot_model.Rules.{value_of}
 use Rattle.depot_rows.specs.Standing.{Stand}
 use Rattle.depot_rows.proofs.Spelled.{at_path-here}
-use Rattle.sound_landing.proofs.Listed.{found_in}
+use Rattle.depot_facts.proofs.Listed.{found_in}
 use Rattle.depots_of_rows.specs.Telling.{all_unplaced, Contents, TellOf, HasTheseContents}
 use Rattle.depots_of_rows.proofs.Told.{is_live_word, live_revision, revision_path}
 use Rattle.depots_of_rows.proofs.Whole.{stands}

@@ -16,7 +16,7 @@ use Rattle.depot_rows.specs.declared.deed.How.TheVariants.{CopyFrom, BranchFrom,
 use Rattle.depot_rows.specs.Deed.{how_of, credit_of}
 use Rattle.depot_rows.proofs.Entries.{In}
 use Rattle.depot_rows.proofs.Keys.{at-self, left-true, right-true}
-use Rattle.sound_landing.proofs.Listed.{flat_in}
+use Rattle.depot_facts.proofs.Listed.{flat_in}
 use Rattle.depots_of_rows.specs.Telling.{Contents}
 use Rattle.depots_of_rows.proofs.Given.{Given, row_keeps}
 use Rattle.depots_of_rows.proofs.Revised.{some_is}

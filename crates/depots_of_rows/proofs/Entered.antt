@@ -20,7 +20,7 @@ use Rattle.depot_rows.specs.Deed.{action_of, credit_of, IsStored, AreEntries}
 use Rattle.depot_rows.specs.Effects.{rev_row, entry_path}
 use Rattle.depot_rows.proofs.Entries.{In}
 use Rattle.depot_rows.proofs.Keys.{same-is, number-is, number-self, left-true, right-true}
-use Rattle.sound_landing.proofs.NewRevisions.{old_number, there_below}
+use Rattle.depot_facts.proofs.Revisions.{old_number, there_below}
 use Rattle.depots_of_rows.specs.Telling.{Contents}
 use Rattle.depots_of_rows.proofs.Given.{Given}
 use Rattle.depots_of_rows.proofs.Side.{both}

@@ -29,7 +29,7 @@ use Rattle.depot_rows.proofs.Flat.{flat_row}
 use Rattle.depot_rows.proofs.Following.{stays_apart}
 use Rattle.depot_rows.proofs.Keys.{same-is, same-self, number-is, number-self, at-is, at-self, left-true, right-true}
 use Rattle.depot_rows.proofs.Submitted.{land_met}
-use Rattle.sound_landing.proofs.Listed.{contains_in, in_contains, in_flat, flat_in, in_filter, in_map, found_in, finds, get_in, get_either, IsBehind}
+use Rattle.depot_facts.proofs.Listed.{contains_in, in_contains, in_flat, flat_in, in_filter, in_map, found_in, finds, get_in, get_either, IsBehind}
 use Rattle.depots_of_rows.specs.Telling.{Contents, HasTheseContents}
 use Rattle.depots_of_rows.proofs.Given.{Given, only, row_keeps}
 use Rattle.depots_of_rows.proofs.Side.{Side, both}

@@ -25,7 +25,7 @@ use Rattle.depot_rows.proofs.Entries.{In}
 use Rattle.depot_rows.proofs.Following.{stays_apart}
 use Rattle.depot_rows.proofs.Keys.{same-is, same-self, at-is, at-self}
 use Rattle.depot_rows.proofs.Spelled.{at_path-nothing}
-use Rattle.sound_landing.proofs.Listed.{contains_in}
+use Rattle.depot_facts.proofs.Listed.{contains_in}
 use Rattle.depots_of_rows.specs.Telling.{Contents}
 use Rattle.depots_of_rows.proofs.Given.{Given, only}
 use Rattle.depots_of_rows.proofs.Side.{Side, Built, both}

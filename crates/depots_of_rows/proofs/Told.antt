@@ -19,8 +19,8 @@ use Rattle.depot_rows.specs.depot_model.Rules.{Rows, has_paths, entry_paths, has
 use Rattle.depot_rows.specs.Standing.{Stand}
 use Rattle.depot_rows.proofs.Entries.{In}
 use Rattle.depot_rows.proofs.Keys.{same-is, left-true, right-true}
-use Rattle.sound_landing.proofs.Listed.{flat_in, in_append, in_filter, in_map, get_in}
-use Rattle.sound_landing.proofs.NewRevisions.{Shown, shown}
+use Rattle.depot_facts.proofs.Listed.{flat_in, in_append, in_filter, in_map, get_in}
+use Rattle.depot_facts.proofs.Revisions.{Shown, shown}
 use Rattle.depots_of_rows.specs.Telling.{all_unplaced, Contents, TellOf, KeepAllRules}
 
 all_true : {A : Type 0} (test : A → Bool) (xs : List A) (x : A) → list_all test xs ≡ true → In xs x → test x ≡ true

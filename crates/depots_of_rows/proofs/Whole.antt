@@ -17,7 +17,7 @@ use Rattle.depot_rows.specs.depot_model.Rules.{Rows, KeepRules, IsSound}
 use Rattle.depot_rows.specs.Standing.{Stand, unplaced_at}
 use Rattle.depot_rows.proofs.Entries.{In}
 use Rattle.depot_rows.proofs.Keys.{at-is}
-use Rattle.sound_landing.proofs.Listed.{flat_in, found_in}
+use Rattle.depot_facts.proofs.Listed.{flat_in, found_in}
 use Rattle.depots_of_rows.specs.Telling.{all_unplaced, Contents, KeepAllRules, HasTheseContents}
 use Rattle.depots_of_rows.proofs.Given.{Given, only}
 use Rattle.depots_of_rows.proofs.Side.{Side, Built, sound_by}

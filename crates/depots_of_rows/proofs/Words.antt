@@ -24,7 +24,7 @@ use Rattle.depot_rows.specs.declared.deed.How.TheVariants.{CopyFrom, BranchFrom,
 use Rattle.depot_rows.specs.declared.deed.Source.{Source}
 use Rattle.depot_rows.specs.Deed.{action_of, how_of}
 use Rattle.depot_rows.proofs.Keys.{same-is, number-is}
-use Rattle.sound_file_steps.proofs.Spelled.{spelled_is}
+use Rattle.depot_facts.proofs.Spelled.{spelled_is}
 use Rattle.depots_of_rows.proofs.Side.{one_path}
 
 -- ---- paths

@@ -22,8 +22,8 @@ use Rattle.depot_rows.specs.depot_model.Steps.Submitting.{content_at}
 use Rattle.depot_rows.specs.Standing.{HasRows}
 use Rattle.depot_rows.proofs.Entries.{In, of_path}
 use Rattle.depot_rows.proofs.Keys.{left-true, right-true}
-use Rattle.sound_landing.proofs.Listed.{in_append, in_filter, in_map, get_in}
-use Rattle.sound_landing.proofs.NewRevisions.{at_read}
+use Rattle.depot_facts.proofs.Listed.{in_append, in_filter, in_map, get_in}
+use Rattle.depot_facts.proofs.PathTexts.{at_read}
 use Rattle.file_contents.specs.Contents.{TellsContent}
 
 some-is : {A : Type 0} {x y : A} → Some x ≡ Some y → x ≡ y

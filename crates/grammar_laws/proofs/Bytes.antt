@@ -8,7 +8,7 @@ use Rattle.depot_rows.specs.depot_path.Bytes.{is_control, is_digit}
 use Rattle.depot_rows.specs.depot_path.Name.{is_name, is_barred}
 use Rattle.depot_rows.specs.depot_path.Path.{is_path, printed, escaped}
 use Rattle.depot_rows.proofs.Keys.{left-true, right-true, number-is, number-self}
-use Rattle.sound_deeds.proofs.Decimals.{decimal_digits, digits_without}
+use Rattle.depot_facts.proofs.Decimals.{decimal_digits, digits_without}
 use Rattle.wire_text.specs.Parts.{IsFree}
 use Rattle.wire_text.proofs.Separators.{free_append}
 

@@ -11,7 +11,7 @@ use Rattle.depot_rows.specs.depot_model.Types.{is_type, printed_type, is_printed
 use Rattle.depot_rows.specs.depot_model.WellFormed.{is_type_or_none, is_free}
 use Rattle.depot_rows.specs.depot_model.declared.request.WordFault.TheVariants.{BadUsage, BadNumber}
 use Rattle.depot_rows.proofs.Keys.{left-true, right-true, same-is}
-use Rattle.sound_deeds.proofs.Decimals.{written, number_decimal, decimal_digits}
+use Rattle.depot_facts.proofs.Decimals.{written, number_decimal, decimal_digits}
 use Rattle.command_words.proofs.Giving.{both}
 use Rattle.command_words.specs.Fields.{optional}
 use Rattle.command_words.specs.Options.{is_option}

@@ -13,7 +13,7 @@ use Rattle.depot_rows.proofs.spec_form.Utf8.{ascii-cons, utf8_both}
 use Rattle.depot_rows.specs.depot_model.declared.line.Line.{Line}
 use Rattle.depot_rows.specs.depot_model.declared.line.Line.TheVariants.{Words, Bad}
 use Rattle.depot_rows.proofs.Keys.{left-true, right-true}
-use Rattle.sound_deeds.proofs.Decimals.{written, number_decimal}
+use Rattle.depot_facts.proofs.Decimals.{written, number_decimal}
 use Rattle.command_words.proofs.Giving.{both}
 use Rattle.wire_text.specs.Parts.{upto, past, IsFree, last_cut}
 use Rattle.wire_text.specs.LineKind.{kind_of, length_of, path_in, path_within, is_within, file_kind, block_kind, clear_kind, input_kind, kind_by_word}

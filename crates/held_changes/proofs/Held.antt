@@ -17,25 +17,16 @@ use Rattle.depot_rows.specs.depot_model.Rules.{IsSound}
 use Rattle.depot_rows.specs.depot_model.Shelves.{is_kept, is_of_change, is_shelved, kept, shelf_name, shelf_paths}
 use Rattle.depot_rows.specs.depot_model.Values.{value_of}
 use Rattle.depot_rows.proofs.Keys.{same-is, same-self, left-true, right-true}
-use Rattle.sound_deeds.proofs.Decimals.{decimal_digits}
-use Rattle.sound_deeds.proofs.Read.{spelled_reads, value_is}
-use Rattle.sound_form_steps.proofs.Found.{saved_shelf, shelf_there, spec_names, spelled}
-use Rattle.sound_form_steps.proofs.Members.{In, key_in}
-use Rattle.sound_form_steps.proofs.Shelving.{kept_are}
-use Rattle.depots_alike.proofs.Kept.{parts_are}
+use Rattle.depot_facts.proofs.Decimals.{decimal_digits, parts_are}
+use Rattle.depot_facts.proofs.Read.{spelled_reads, value_is}
+use Rattle.depot_facts.proofs.Found.{saved_shelf, shelf_there, spec_names, spelled}
+use Rattle.depot_facts.proofs.Members.{key_in}
+use Rattle.depot_facts.proofs.PathsTold.{kept_are}
+use Rattle.depot_facts.proofs.Listed.{any_of}
 use Rattle.named_forms.proofs.Texts.{begins_front}
 use Rattle.held_changes.specs.Holding.{holds, is_held}
 
 -- ---- shelved files
-
-some_of : (test : List ℕ → Bool) (xs : List (List ℕ)) (x : List ℕ) → In xs x → test x ≡ true → list_any test xs ≡ true
-some_of test [] x h e = absurd h
-some_of test (y ∷ ys) x (inl is) e = ap (λ b. b || list_any test ys) (ap test is ∙ e)
-some_of test (y ∷ ys) x (inr later) e = go (test y) (some_of test ys x later e)
-  where
-    go : (b : Bool) → list_any test ys ≡ true → (b || list_any test ys) ≡ true
-    go true h = refl
-    go false h = h
 
 none_of : (test : List ℕ → Bool) → ((x : List ℕ) → test x ≡ false) → (xs : List (List ℕ)) → list_any test xs ≡ false
 none_of test all [] = refl
@@ -81,7 +72,7 @@ module _ (d : List Deed) (sound : IsSound d) (n : ℕ) where
           let on : is_kept form ≡ true = is_when (is_kept form) form h in
           let held : held_in (shelf_name n z) ≡ true =
           ap (λ (o : Option FormValue). option_map_or (holds (codes "kept") (decimal n)) o false) e ∙ (λ i. on i && of i) in
-          some_of held_in (keys_of (spec_name ShelfForm) d) (shelf_name n z)
+          any_of held_in (keys_of (spec_name ShelfForm) d) (shelf_name n z)
           (key_in (spec_said ShelfForm (shelf_name n z)) (spec_name ShelfForm) (shelf_name n z) form (spec_names ShelfForm (shelf_name n z) form) d e) held
 
   none_holds : is_shelved d n ≡ false → (name : List ℕ) → held_in name ≡ false

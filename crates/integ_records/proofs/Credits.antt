@@ -29,11 +29,13 @@ use Rattle.depot_rows.proofs.Entries.{In}
 use Rattle.depot_rows.proofs.Keys.{at-is, left-true, right-true, same-is, same-self}
 use Rattle.depot_rows.proofs.Spelled.{at_path-here}
 use Rattle.depot_rows.specs.Standing.{unplaced_at}
-use Rattle.sound_landing.proofs.Listed.{found_in}
-use Rattle.sound_landing.proofs.NewPairs.{of_key, own_row}
+use Rattle.depot_facts.proofs.Listed.{found_in, any_of, one_of, place_of}
+use Rattle.depot_facts.proofs.Credits.{of_key, own_row, Tells, Written, is_how, one_number, other_word, own_word, tells, writes}
 use Rattle.row_reads.proofs.Alike.{unplaced_row}
 use Rattle.row_rules.proofs.Found.{at_own, found_behind}
-use Rattle.depots_alike.proofs.Credits.{Tells, Written, any_of, in_revision, is_how, one_number, one_of, one_path, or_true, other_word, own_word, place_of, tells, writes}
+use Rattle.depot_facts.proofs.PathTexts.{one_path}
+use Rattle.depot_facts.proofs.Revisions.{in_revision}
+use Rattle.std.proofs.Math.Bool.{or-true}
 use Rattle.integ_records.specs.Crediting.{is_within, span_of_row, span_of_rows}
 use Rattle.integ_records.specs.declared.crediting.Span.{Span}
 
@@ -170,7 +172,7 @@ module _ (d : List Deed) (sound : IsSound d) (s t : List ℕ) (is_s : is_path s 
   of_left h = ap (λ b. b || given (revision d s n)) h
 
   of_right : given (revision d s n) ≡ true → credited d s t n ≡ true
-  of_right h = ap (λ b. taken_in || b) h ∙ or_true taken_in
+  of_right h = ap (λ b. taken_in || b) h ∙ or-true taken_in
 
   -- the record of a credit
   credit_credits : (z : IntegedRecord) → record_of d (key_for z) ≡ Some (records.Integed z) → is_how z.how ≡ true → z.to_file ≡ printed t → z.from_file ≡ printed s

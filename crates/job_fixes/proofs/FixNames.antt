@@ -16,9 +16,9 @@ use Rattle.depot_rows.specs.depot_model.Latest.{keys_of, spec, spec_name}
 use Rattle.depot_rows.specs.depot_model.Rules.{IsSound, is_job_name}
 use Rattle.depot_rows.specs.depot_model.Values.{value_of}
 use Rattle.depot_rows.proofs.Keys.{left-true, right-true, same-is}
-use Rattle.sound_deeds.proofs.Read.{spelled_reads, value_is}
-use Rattle.sound_form_steps.proofs.Found.{saved_fix, saved_job, spelled}
-use Rattle.sound_landing.proofs.Fixing.{fix_tells}
+use Rattle.depot_facts.proofs.Read.{spelled_reads, value_is}
+use Rattle.depot_facts.proofs.Found.{saved_fix, saved_job, spelled}
+use Rattle.depot_facts.proofs.Fixes.{fix_tells}
 use Rattle.named_forms.proofs.Texts.{begins_front}
 use Rattle.job_fixes.specs.Fixes.{fixes_among, is_asked, names_asked}
 

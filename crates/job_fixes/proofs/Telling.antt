@@ -3,7 +3,7 @@ use Rattle.std.proofs.Common.{◌≡◌, List, [], ◌∷◌, ◌++◌, Some, ap
 use Rattle.depot_rows.specs.depot_model.Deeds.{Deed}
 use Rattle.depot_rows.specs.Deed.{deed_of}
 use Rattle.depot_rows.specs.declared.deed.Deed.{Deed as Done}
-use Rattle.sound_landing.specs.Following.{AreTold}
+use Rattle.depot_facts.specs.Following.{AreTold}
 use Rattle.job_fixes.specs.Telling.{Tells}
 
 pub told_on : (a b : List Done) (s t : List Deed) → AreTold a s → AreTold b t → AreTold (a ++ b) (s ++ t)

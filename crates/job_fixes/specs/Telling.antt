@@ -2,7 +2,7 @@
 use Rattle.std.specs.Prelude.{◌≡◌, ◌++◌, List}
 use Rattle.depot_rows.specs.depot_model.Deeds as model
 use Rattle.depot_rows.specs.declared.deed.Deed.{Deed}
-use Rattle.sound_landing.specs.Following.{AreTold}
+use Rattle.depot_facts.specs.Following.{AreTold}
 
 -- deeds, with further ones behind them that are the model's
 abbrev pub Tells : List Deed → List Deed → List model.Deed → Type 0

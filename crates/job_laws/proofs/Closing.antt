@@ -13,7 +13,7 @@ use Rattle.depot_model.specs.Steps.Submitting.{dropped, got_and_shut, landed, la
 use Rattle.depot_model.specs.declared.request.Request.{Request}
 use Rattle.depot_rows.proofs.Keys.{same-is}
 use Rattle.depot_runs.specs.Folds.{closed_where}
-use Rattle.sound_file_steps.proofs.Steps.{after_joined}
+use Rattle.depot_facts.proofs.Steps.{after_joined}
 use Rattle.job_laws.proofs.Submits.{unsaved}
 
 -- ---- words about tests

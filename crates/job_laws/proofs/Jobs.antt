@@ -20,9 +20,9 @@ use Rattle.depot_model.specs.declared.request.Request.{Request}
 use Rattle.depot_rows.proofs.Entries.{In}
 use Rattle.depot_rows.proofs.Keys.{same-is, same-self}
 use Rattle.depot_runs.specs.Folds.{command_of, closed_where, closes_by_submit, job_next, job_from, job_state}
-use Rattle.sound_deeds.proofs.Decimals.{decimal_digits, parts_is}
-use Rattle.sound_landing.proofs.Fixing.{fix_in}
-use Rattle.sound_landing.proofs.Listed.{in_filter}
+use Rattle.depot_facts.proofs.Decimals.{decimal_digits, parts_is}
+use Rattle.depot_facts.proofs.Fixes.{fix_in}
+use Rattle.depot_facts.proofs.Listed.{in_filter}
 use Rattle.step_forms.proofs.Placing.{at_place}
 use Rattle.step_forms.proofs.Staying.{form_stays, spec_after}
 use Rattle.step_forms.proofs.Whole.{from_own, step_saves}

@@ -4,6 +4,7 @@ use Rattle.std.specs.Prelude.{◌||◌, ◌==◌, codes, decimal, filter_map, fl
 use Rattle.std.specs.Fmt.{digits, digits_onto, digit_glyph}
 use Rattle.std.specs.List.{list_all}
 use Rattle.std.specs.Option.{option_or}
+use Rattle.std.proofs.lemmas.Option.{same_Some}
 use Rattle.depot_model.specs.depot_path.Bytes.{same}
 use Rattle.depot_model.specs.depot_path.Digits.{number_of}
 use Rattle.depot_model.specs.spec_form.Form.{FormValue, with_field}
@@ -26,11 +27,11 @@ use Rattle.depot_model.specs.declared.refusal.Refusal.TheVariants.{NoSuchChange,
 use Rattle.depot_model.specs.declared.request.Caller.{Caller}
 use Rattle.depot_model.specs.declared.request.Request.{Request}
 use Rattle.depot_rows.proofs.Keys.{same-is, left-true, right-true}
-use Rattle.sound_file_steps.proofs.Steps.{AllOf, joined, passed}
-use Rattle.sound_form_steps.proofs.Fields.{value_back, other_value, own_value, has_valued}
-use Rattle.sound_landing.proofs.Fixing.{fix_tells, numeral_is}
-use Rattle.sound_landing.proofs.Listed.{in_filter}
-use Rattle.sound_landing.proofs.OpenFiles.{in_filter_map}
+use Rattle.depot_facts.proofs.Steps.{AllOf, joined, passed}
+use Rattle.depot_facts.proofs.Fields.{value_back, other_value, own_value, has_valued}
+use Rattle.depot_facts.proofs.Decimals.{numeral_is}
+use Rattle.depot_facts.proofs.Fixes.{fix_tells}
+use Rattle.depot_facts.proofs.Listed.{in_filter, in_filter_map}
 use Rattle.depot_rows.proofs.Entries.{In}
 use Rattle.step_forms.proofs.Combining.{unless_holds}
 use Rattle.step_forms.proofs.Placing.{at_place}
@@ -38,9 +39,6 @@ use Rattle.step_forms.proofs.Staying.{form_stays}
 use Rattle.step_forms.proofs.Whole.{from_own, step_saves}
 use Rattle.step_forms.specs.SavedForms.{saved_kinds}
 use Rattle.job_laws.proofs.Submits.{of_submit, of_submit_change}
-
-some-is : {A : Type 0} {x y : A} → Some x ≡ Some y → x ≡ y
-some-is e = cc
 
 -- a number has a digit
 more_digits : (k n x : ℕ) (acc : List ℕ) → digits_onto k 10 false n (x ∷ acc) ≢ []
@@ -76,7 +74,7 @@ Named _ = Unit {0}
 pub sound_named : (d : List Deed) → IsSound d → AreNamed d
 sound_named d sound key form e =
     let tells = fix_tells d sound key form e in
-    let change = numeral_is d sound (value_of form (codes "Change")) tells.numeral in
+    let change = numeral_is (value_of form (codes "Change")) tells.numeral in
     record { number = number_of (value_of form (codes "Change")); named = tells.named ∙ ap (λ (t : List ℕ). fixed_job form ++ 0x20 ∷ t) change; of_change = change }
 
 -- a fix of a change is saved under its job's name and the change's number
@@ -94,7 +92,7 @@ one_named d named (Spec FixForm m f) is key form e = go (same m key) refl e
   where
     go : (b : Bool) → same m key ≡ b → option_or (when b f) (latest (spec_said FixForm key) d) ≡ Some form → IsNamed key form
     go true s h =
-        let one : f ≡ form = some-is h in
+        let one : f ≡ form = same_Some _ _ h in
         record {
           number = is.number;
           named = sym (same-is m key s) ∙ is.named ∙ ap (λ (x : FormValue). fix_name (fixed_job x) is.number) one;

@@ -16,8 +16,8 @@ use Rattle.depot_model.specs.declared.refusal.Refusal.TheVariants.{NoSuchChange,
 use Rattle.depot_model.specs.declared.request.Caller.{Caller}
 use Rattle.depot_rows.proofs.Keys.{same-is, same-self}
 use Rattle.depot_runs.specs.Folds.{closed_where, closes_by_fix}
-use Rattle.sound_deeds.proofs.Decimals.{decimal_digits, parts_is}
-use Rattle.sound_file_steps.proofs.Steps.{after_joined}
+use Rattle.depot_facts.proofs.Decimals.{decimal_digits, parts_is}
+use Rattle.depot_facts.proofs.Steps.{after_joined}
 use Rattle.step_forms.proofs.Combining.{unless_holds}
 use Rattle.step_forms.proofs.Staying.{said_alone}
 use Rattle.job_laws.proofs.Closing.{IsClosed, still, or_false, closes_one}

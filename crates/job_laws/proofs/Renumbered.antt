@@ -3,6 +3,7 @@ use Rattle.std.proofs.Common.{◌≡◌, ℕ, Bool, true, false, List, [], ◌�
 use Rattle.std.specs.Prelude.{◌&&◌, ◌||◌, ◌==◌, not, codes, decimal, flat_map, if◌then◌else◌, option_map}
 use Rattle.std.specs.List.{list_any}
 use Rattle.std.specs.Option.{option_or}
+use Rattle.std.proofs.lemmas.Option.{same_Some}
 use Rattle.depot_model.specs.depot_path.Bytes.{same}
 use Rattle.depot_model.specs.spec_form.Form.{FormValue, with_field}
 use Rattle.depot_model.specs.Commands.{step}
@@ -18,17 +19,14 @@ use Rattle.depot_model.specs.declared.request.Request.{Request}
 use Rattle.depot_rows.proofs.Entries.{In}
 use Rattle.depot_rows.proofs.Keys.{same-is, same-self, left-true, right-true}
 use Rattle.depot_runs.specs.Folds.{landed_by}
-use Rattle.sound_deeds.proofs.Decimals.{decimal_digits, parts_is}
-use Rattle.sound_file_steps.proofs.Steps.{after_joined}
+use Rattle.depot_facts.proofs.Decimals.{decimal_digits, parts_is}
+use Rattle.depot_facts.proofs.Steps.{after_joined}
 use Rattle.step_forms.proofs.Whole.{from_own}
 use Rattle.job_laws.specs.Renumbering.{submitted, is_written, fix_moved, fix_landed}
 use Rattle.job_laws.proofs.Closing.{either, is_fix, or_false, or_or}
 use Rattle.job_laws.proofs.Jobs.{fixed_alike}
 use Rattle.job_laws.proofs.Named.{AreNamed, saved_fix, sound_named}
 use Rattle.job_laws.proofs.Submits.{of_submit, of_submit_change, unsaved}
-
-some-is : {A : Type 0} {x y : A} → Some x ≡ Some y → x ≡ y
-some-is e = cc
 
 key_same : (x name : List ℕ) (a k : ℕ) → same (fix_name x a) (fix_name name k) ≡ (same x name && is_written k a)
 key_same x name a k = either (same (fix_name x a) (fix_name name k)) (same x name && is_written k a) up down
@@ -165,7 +163,7 @@ module _ (d : List Deed) (named : AreNamed d) (request : Request) (n m : ℕ) (n
       let before = dropped d n ++ flat_map (got_and_shut d) openings in
       ap (λ (x : List Deed). spec x FixForm (fix_name name k)) (after_joined first before (flat_map (closing d n (landing_number d n)) (fixes_of d n)))
       ∙ closings_follow d n (landing_number d n) name k named (after first before) (unsaved d FixForm (fix_name name k) (landing_of d request n text openings) n openings)
-      ∙ ap (λ (number : ℕ). fix_landed d n number name k) (some-is e)
+      ∙ ap (λ (number : ℕ). fix_landed d n number name k) (same_Some _ _ e)
 
   none_follow : Follow []
   none_follow e = absurd cc
@@ -182,9 +180,9 @@ module _ (d : List Deed) (named : AreNamed d) (request : Request) (m : ℕ) (nam
 pub fixes_follow : (d : List Deed) → IsSound d → (request : Request) (command : Command) (n m : ℕ) → request.command ≡ Ok command → submitted command ≡ Some n
     → landed_by (step d request).deeds ≡ Some m → (name : List ℕ) (k : ℕ) → spec (after d (step d request).deeds) FixForm (fix_name name k) ≡ fix_landed d n m name k
 fixes_follow d sound request (SubmitChange c) n m is one landed name k =
-    subst (λ (number : ℕ). spec (after d (step d request).deeds) FixForm (fix_name name k) ≡ fix_landed d number m name k) (some-is one)
+    subst (λ (number : ℕ). spec (after d (step d request).deeds) FixForm (fix_name name k) ≡ fix_landed d number m name k) (same_Some _ _ one)
     (change_follows d (sound_named d sound) request c m name k is landed)
 fixes_follow d sound request (SubmitDefault text) n m is one landed name k =
-    subst (λ (number : ℕ). spec (after d (step d request).deeds) FixForm (fix_name name k) ≡ fix_landed d number m name k) (some-is one)
+    subst (λ (number : ℕ). spec (after d (step d request).deeds) FixForm (fix_name name k) ≡ fix_landed d number m name k) (same_Some _ _ one)
     (default_follows d (sound_named d sound) request m name k text is landed)
 fixes_follow d sound request _ n m is one landed name k = absurd cc

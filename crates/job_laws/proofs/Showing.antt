@@ -18,9 +18,8 @@ use Rattle.depot_model.specs.declared.refusal.Refusal.TheVariants.{NoSuchJob}
 use Rattle.depot_model.specs.declared.request.Caller.{Caller}
 use Rattle.depot_rows.proofs.Keys.{same-self}
 use Rattle.depot_runs.specs.Folds.{job_state, fix_state}
-use Rattle.sound_landing.proofs.Fixing.{fix_in}
-use Rattle.sound_landing.proofs.Listed.{contains_in, in_contains, in_filter}
-use Rattle.sound_landing.proofs.OpenFiles.{in_filter_map}
+use Rattle.depot_facts.proofs.Fixes.{fix_in}
+use Rattle.depot_facts.proofs.Listed.{contains_in, in_contains, in_filter, in_filter_map}
 use Rattle.job_laws.specs.Showing.{shows_job}
 use Rattle.job_laws.proofs.Fixes.{folded_fixes}
 use Rattle.job_laws.proofs.Jobs.{folded_jobs}

@@ -11,7 +11,7 @@ use Rattle.depot_model.specs.Steps.Submitting.{submit, submit_change, dropped, g
 use Rattle.depot_model.specs.declared.refusal.Limit.TheVariants.{Text, Change, Files}
 use Rattle.depot_model.specs.declared.refusal.Refusal.TheVariants.{EmptyChange, OverLimit}
 use Rattle.depot_model.specs.declared.request.Request.{Request}
-use Rattle.sound_file_steps.proofs.Steps.{after_joined}
+use Rattle.depot_facts.proofs.Steps.{after_joined}
 use Rattle.step_forms.proofs.Combining.{unless_holds}
 
 module _ (d : List Deed) (request : Request) (n : ℕ) (Holds : List Deed → Type 0) (nothing : Holds [])

@@ -9,7 +9,7 @@ use Rattle.depot_rows.specs.Effects.{Follow, May}
 use Rattle.depot_rows.specs.depot_model.Records.{record_of}
 use Rattle.depot_rows.specs.declared.deed.Deed.{Deed as Done}
 use Rattle.depot_rows.specs.declared.deed.Deed.TheVariants.{Spec, Guard, Group, Count, Pend, Drop, Open, Shut, Hold, Free, Got, Tag, Owe, Paid, Land}
-use Rattle.sound_landing.specs.Following.{AreTold}
+use Rattle.depot_facts.specs.Following.{AreTold}
 
 abbrev pub AreSpecs : List Deed → Type 0
 AreSpecs [] = Unit {0}

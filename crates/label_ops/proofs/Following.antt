@@ -17,7 +17,7 @@ use Rattle.depot_rows.specs.Deed.{IsDeed}
 use Rattle.depot_rows.specs.Effects.{Follow, May}
 use Rattle.depot_rows.specs.declared.deed.Deed.{Deed as Done}
 use Rattle.depot_rows.specs.declared.deed.Deed.TheVariants as dones
-use Rattle.sound_file_steps.proofs.Steps.{AllOf, over_these, unless_all}
+use Rattle.depot_facts.proofs.Steps.{AllOf, over_these, unless_all}
 
 -- the deed puts a file into a label, or takes it out
 abbrev pub IsTag : Deed → Type 0

@@ -19,8 +19,8 @@ use Rattle.reply_rows.specs.Made.{IsMade, told}
 use Rattle.reply_rows.specs.declared.step.Step.{Step}
 use Rattle.reply_rows.proofs.Bare.{made_of, tells_made}
 use Rattle.reply_rows.proofs.Joined.{made_on, then_on}
-use Rattle.sound_file_steps.proofs.Spelled.{label_spelled}
-use Rattle.sound_file_steps.proofs.Steps.{AllOf}
+use Rattle.depot_facts.proofs.Spelled.{label_spelled}
+use Rattle.depot_facts.proofs.Steps.{AllOf}
 use Rattle.label_ops.specs.Tagged.{saved_label}
 use Rattle.label_ops.proofs.Following.{IsTag, tags_follow}
 

@@ -35,8 +35,8 @@ use Rattle.depot_rows.proofs.Keys.{same-is, same-self, left-true, right-true}
 use Rattle.depot_rows.proofs.Locks.{opened-is}
 use Rattle.depot_rows.proofs.Sorted.{Below, Rise, insert_rises, path_order}
 use Rattle.depot_rows.proofs.Spelled.{at_path-here}
-use Rattle.sound_landing.proofs.Listed.{in_filter, in_map}
-use Rattle.sound_landing.proofs.OpenFiles.{in_filter_map, in_openings, opened_path}
+use Rattle.depot_facts.proofs.Listed.{in_filter, in_map, in_filter_map}
+use Rattle.depot_facts.proofs.OpenFiles.{in_openings, opened_path}
 use Rattle.opening_reads.specs.InChange.{is_in, opened_in, opening_at, opening_of_row}
 use Rattle.opening_reads.specs.Read.{opening_in_row, path_in_text}
 use Rattle.opening_reads.proofs.Opens.{path_is, row_opens}

@@ -13,8 +13,8 @@ use Rattle.depot_rows.specs.Deed.{owing_of}
 use Rattle.depot_rows.specs.declared.deed.Owing.{Owing as OwingSaid}
 use Rattle.depot_rows.proofs.Entries.{In}
 use Rattle.depot_rows.proofs.Locks.{opened-is}
-use Rattle.sound_landing.proofs.Listed.{in_filter, in_map}
-use Rattle.sound_landing.proofs.OpenFiles.{in_filter_map, owed_is}
+use Rattle.depot_facts.proofs.Listed.{in_filter, in_map, in_filter_map}
+use Rattle.depot_facts.proofs.OpenFiles.{owed_is}
 use Rattle.opening_reads.specs.Owed.{owing_from, owing_of_row}
 use Rattle.opening_reads.specs.Read.{path_in_text}
 use Rattle.opening_reads.proofs.Opens.{path_is}

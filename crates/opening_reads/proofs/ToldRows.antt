@@ -19,8 +19,7 @@ use Rattle.depot_rows.specs.Standing.{unplaced_at}
 use Rattle.depot_rows.proofs.Entries.{In}
 use Rattle.row_reads.proofs.Alike.{unplaced_row}
 use Rattle.row_reads.proofs.GroupsListed.{kept_rise}
-use Rattle.sound_landing.proofs.Listed.{in_filter, found_in}
-use Rattle.sound_landing.proofs.OpenFiles.{filter_in}
+use Rattle.depot_facts.proofs.Listed.{in_filter, found_in, filter_in}
 
 pub map_in : {A B : Type 0} (f : A → B) (xs : List A) (x : A) → In xs x → In (map f xs) (f x)
 map_in f [] x h = absurd h

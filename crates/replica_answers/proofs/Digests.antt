@@ -22,7 +22,7 @@ use Rattle.depot_rows.specs.depot_model.declared.reply.Field.{Field}
 use Rattle.depot_rows.specs.depot_model.declared.reply.Row.{Row}
 use Rattle.depot_rows.specs.Standing.{Stand, row_in}
 use Rattle.depot_rows.specs.table_changes.Changed.{AllRows}
-use Rattle.depots_alike.proofs.Nowhere.{no_revisions}
+use Rattle.depot_facts.proofs.Nowhere.{no_revisions}
 use Rattle.recovery.specs.Standing.{HasContent, HasContents}
 use Rattle.replica_replies.specs.Prints.{IsShown}
 use Rattle.revision_reads.proofs.FileRows.{number_small, rev_row}

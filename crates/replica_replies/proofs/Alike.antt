@@ -16,7 +16,7 @@ use Rattle.depot_model.specs.declared.reply.Row.{Row}
 use Rattle.depot_model.specs.declared.request.Request.{Request}
 use Rattle.depot_model.specs.declared.request.WordFault.{WordFault}
 use Rattle.depot_runs.specs.Replica.{is_refused, answered, replica_reply}
-use Rattle.depots_alike.specs.Contents.{SameContents}
+use Rattle.depot_facts.specs.Contents.{SameContents}
 use Rattle.depots_alike.proofs.Whole.{step_same}
 use Rattle.cut_depots.proofs.Sound.{cut_sound}
 

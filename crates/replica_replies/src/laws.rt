@@ -8,7 +8,7 @@ ghost use Rattle.depot_model.specs.Rules.{IsSound};
 ghost use Rattle.depot_model.specs.declared.filter.FilterRule.{FilterRule};
 ghost use Rattle.depot_model.specs.declared.request.Request.{Request};
 ghost use Rattle.depot_runs.specs.Replica.{replica_reply};
-ghost use Rattle.depots_alike.specs.Contents.{SameContents};
+ghost use Rattle.depot_facts.specs.Contents.{SameContents};
 ghost use Rattle.reply_rows.specs.Made.{contents_of};
 ghost use Rattle.replica_replies.specs.Prints.{AreShown, prints};
 

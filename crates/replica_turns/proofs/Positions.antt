@@ -4,7 +4,7 @@ use Rattle.std.specs.Prelude.{◌==◌, codes, decimal}
 use Rattle.std.specs.List.{list_all}
 use Rattle.depot_rows.specs.depot_path.Bytes.{is_digit}
 use Rattle.depot_rows.proofs.Keys.{left-true, right-true, number-is}
-use Rattle.sound_deeds.proofs.Decimals.{decimal_digits}
+use Rattle.depot_facts.proofs.Decimals.{decimal_digits}
 use Rattle.depot_rows.specs.depot_model.Printed.{printed, printed_field, printed_value}
 use Rattle.depot_rows.specs.depot_model.Rows.{number_field}
 use Rattle.depot_runs.specs.Replica.{position_row}

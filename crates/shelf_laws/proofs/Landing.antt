@@ -20,26 +20,9 @@ use Rattle.depot_model.specs.Shelves.{is_kept, is_shelved, kept, kept_paths, she
 use Rattle.depot_model.specs.Values.{value_of}
 use Rattle.depot_rows.proofs.Entries.{In}
 use Rattle.depot_rows.proofs.Keys.{same-is, left-true, right-true}
-use Rattle.sound_deeds.proofs.Decimals.{decimal_digits, number_decimal}
-use Rattle.sound_landing.proofs.Listed.{in_filter}
-use Rattle.sound_landing.proofs.Shelved.{value_is, rule}
-
--- digits before the first blank
-fronts : (xs ys ds es : List ℕ) → list_all is_digit xs ≡ true → list_all is_digit ys ≡ true → xs ++ 0x20 ∷ ds ≡ ys ++ 0x20 ∷ es → xs ≡ ys
-fronts [] [] ds es p q e = refl
-fronts [] (y ∷ ys) ds es p q e = absurd (
-    let one : 0x20 ≡ y = cc in
-    let no : false ≡ true = ap is_digit one ∙ left-true (is_digit y) (list_all is_digit ys) q in
-    cc)
-fronts (x ∷ xs) [] ds es p q e = absurd (
-    let one : x ≡ 0x20 = cc in
-    let no : false ≡ true = sym (ap is_digit one) ∙ left-true (is_digit x) (list_all is_digit xs) p in
-    cc)
-fronts (x ∷ xs) (y ∷ ys) ds es p q e =
-    let head_is : x ≡ y = cc in
-    let tail : xs ++ 0x20 ∷ ds ≡ ys ++ 0x20 ∷ es = cc in
-    let rest = fronts xs ys ds es (right-true (is_digit x) (list_all is_digit xs) p) (right-true (is_digit y) (list_all is_digit ys) q) tail in
-    (λ i. head_is i ∷ rest i)
+use Rattle.depot_facts.proofs.Decimals.{decimal_digits, number_decimal, parts_are}
+use Rattle.depot_facts.proofs.Listed.{in_filter}
+use Rattle.depot_facts.proofs.Found.{spec_value, saved_shelf}
 
 abbrev change_row : Option Pending → Option Landing → Option Record
 change_row p l = elim p [ Some q ↦ Some (pending_record q) | None ↦ option_map landed_record l ]
@@ -78,17 +61,17 @@ module _ (d : List Deed) (sound : IsSound d) (n : ℕ) (there : IsSome (landing 
     number = shelf_value (codes "Change") text
 
     shelf : IsShelf (record_of d) (shelf_name n path) text
-    shelf = rule d sound (shelf_name n path) form saved
+    shelf = saved_shelf d sound (shelf_name n path) form saved
 
     digits : list_all is_digit number ≡ true
     digits = right-true (nat_le 1 (length number)) (list_all is_digit number) (left-true (is_digits number) _ (left-true (is_numeral number) _ shelf.change))
 
     number_is : shelf_number (codes "Change") text ≡ n
     number_is =
-        ap number_of (sym (fronts (decimal n) number (printed path) (shelf_value (codes "Path") text) (decimal_digits n) digits shelf.named)) ∙ number_decimal n small
+        ap number_of (sym (parts_are (decimal n) number (printed path) (shelf_value (codes "Path") text) (decimal_digits n) digits shelf.named).0) ∙ number_decimal n small
 
     state_is : shelf_value (codes "State") text ≡ codes "kept"
-    state_is = value_is d sound (shelf_name n path) form saved (codes "State") ∙ same-is (value_of form (codes "State")) (codes "kept") is
+    state_is = spec_value d sound ShelfForm (shelf_name n path) form saved (codes "State") ∙ same-is (value_of form (codes "State")) (codes "kept") is
 
     refuted : ⊥
     refuted = not_pending (subst (λ (m : ℕ). IsSomeAnd (record_of d (keys.Change m)) IsPending) number_is (shelf.kept state_is).pending)

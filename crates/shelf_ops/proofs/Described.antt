@@ -34,8 +34,8 @@ use Rattle.opening_reads.proofs.Onwards.{all_but_first}
 use Rattle.reply_rows.specs.declared.step.Step.{Step}
 use Rattle.reply_rows.specs.Made.{IsMade, told}
 use Rattle.reply_rows.proofs.Joined.{made_refusal, made_row}
-use Rattle.sound_deeds.proofs.Read.{spelled_reads, value_is}
-use Rattle.sound_form_steps.proofs.Found.{saved_shelf, spelled}
+use Rattle.depot_facts.proofs.Read.{spelled_reads, value_is}
+use Rattle.depot_facts.proofs.Found.{saved_shelf, spelled}
 use Rattle.shelf_ops.specs.Described.{change_told, form_fields, kept_word}
 
 -- ---- the base in the form of a kept file

@@ -22,12 +22,10 @@ use Rattle.depot_rows.specs.depot_model.Rows.{action_word}
 use Rattle.depot_rows.specs.depot_model.Rules.{IsSound}
 use Rattle.depot_rows.specs.depot_model.Shelves.{content_fields, gone_form, kept_form, source_fields}
 use Rattle.depot_rows.specs.depot_model.Values.{valued}
-use Rattle.sound_deeds.proofs.Files.{ArePaths, are_paths}
-use Rattle.sound_file_steps.proofs.Known.{IsKnown, opened_known}
-use Rattle.sound_file_steps.proofs.Spelled.{good_name}
-use Rattle.sound_form_steps.proofs.KeptForms.{kept_spelled}
-use Rattle.sound_form_steps.proofs.Unshelving.{good_decimal, good_path}
-use Rattle.sound_form_steps.proofs.Values.{good_content, type_named}
+use Rattle.depot_facts.proofs.OpenFiles.{ArePaths, are_paths, opened_paths, opening_rule}
+use Rattle.depot_facts.proofs.Spelled.{good_name}
+use Rattle.depot_facts.proofs.KeptForms.{kept_spelled}
+use Rattle.depot_facts.proofs.Values.{good_decimal, good_path, good_content, type_named}
 use Rattle.shelf_ops.specs.Forms.{fields_text}
 
 -- ---- fields one after another
@@ -97,23 +95,20 @@ module _ (caller : Caller) (o : Opening) (block : Option (List ℕ)) where
   kept_printed = all_printed o.source block
 
   module _ (user : is_name caller.user ≡ true) (client : is_name caller.client ≡ true) (d : List Deed) (sound : IsSound d) (c path : List ℕ) (is : opened d c path ≡ Some o) where
-    known : IsKnown d c path o
-    known = opened_known d sound c path o is
-
     paths : ArePaths o.path o.moved o.source
-    paths = are_paths o.path o.moved o.source known.has
+    paths = are_paths o.path o.moved o.source (opened_paths d sound.paths c path o is)
 
     source_good : (s : Source) → o.source ≡ Some s → GoodValue (value_lines (printed s.path)) × GoodValue (value_lines (decimal s.rev))
     source_good s e = (good_path s.path (subst (λ (x : Option Source). IfSome x (λ y. is_path y.path ≡ true)) e paths.taken), good_decimal s.rev)
 
     kept_reads : form_of Shelf (printed_form (kept_form caller o block)) ≡ Ok (kept_form caller o block)
     kept_reads = (kept_spelled (printed o.path) (decimal o.change) caller.client caller.user (action_word o.action) o.file_type (decimal o.base) (record {
-      path = good_path o.path known.pathed;
+      path = good_path o.path paths.own;
       change = good_decimal o.change;
       client = good_name caller.client client;
       user = good_name caller.user user;
       action = good_word o.action;
-      file_type = good_name o.file_type (type_named o.file_type (known.keeps).file_type);
+      file_type = good_name o.file_type (type_named o.file_type (opening_rule d sound c path o is).4);
       base = good_decimal o.base;
       kept = good_name (codes "kept") refl;
     }) o.source block source_good (λ x. good_content x)).1

@@ -28,12 +28,12 @@ use Rattle.depot_rows.specs.Standing.{unplaced_at}
 use Rattle.depot_rows.proofs.Keys.{left-true, right-true, same-self}
 use Rattle.named_files.proofs.Rising.{filter_rises, in_filter, one_list, told_rise}
 use Rattle.row_reads.proofs.FormsRead.{form_there}
-use Rattle.sound_deeds.proofs.Decimals.{decimal_digits}
-use Rattle.sound_deeds.proofs.Read.{spelled_reads, value_is}
-use Rattle.sound_form_steps.proofs.Found.{saved_shelf, spelled}
-use Rattle.sound_form_steps.proofs.Members.{In, told_in}
-use Rattle.sound_form_steps.proofs.Shelving.{paths_in_are}
-use Rattle.depots_alike.proofs.Kept.{parts_are}
+use Rattle.depot_facts.proofs.Decimals.{decimal_digits, parts_are}
+use Rattle.depot_facts.proofs.Read.{spelled_reads, value_is}
+use Rattle.depot_facts.proofs.Found.{saved_shelf, spelled}
+use Rattle.depot_facts.proofs.Members.{told_in}
+use Rattle.depot_rows.proofs.Entries.{In}
+use Rattle.depot_facts.proofs.PathTexts.{paths_in_are}
 use Rattle.shelf_ops.specs.ShelfRows.{beginning, shelf_files}
 use Rattle.shelf_ops.proofs.Listed.{files_rise, in_files}
 

@@ -27,9 +27,9 @@ use Rattle.depot_rows.proofs.Keys.{same-is}
 use Rattle.opening_reads.specs.Read.{path_in_text, source_at as source_of_path}
 use Rattle.reply_rows.specs.declared.step.Step.{Step}
 use Rattle.reply_rows.specs.Made.{ComeFrom, IsMade, contents_of, waiting}
-use Rattle.sound_deeds.proofs.Read.{has_is, spelled_reads, value_is}
-use Rattle.sound_deeds.proofs.Revised.{rev_low}
-use Rattle.sound_form_steps.proofs.Found.{saved_shelf, spelled}
+use Rattle.depot_facts.proofs.Read.{has_is, spelled_reads, value_is}
+use Rattle.depot_facts.proofs.Revised.{rev_low}
+use Rattle.depot_facts.proofs.Found.{saved_shelf, spelled}
 use Rattle.shelf_ops.specs.Unshelved.{given_block, opens_kept, opens_waiting, unshelved_at, word_action}
 
 -- ---- the numbers in the form of a kept file

@@ -7,12 +7,9 @@ pub mod Locks
 pub mod Simple
 pub mod Files
 pub mod Owing
-pub mod Read
 pub mod Changes
 pub mod Lines
 pub mod Forms
 pub mod Loose
 pub mod Ties
 pub mod Whole
-pub mod Decimals
-pub mod Revised

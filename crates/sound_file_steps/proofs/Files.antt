@@ -23,8 +23,9 @@ use Rattle.depot_rows.specs.depot_model.declared.request.Caller.{Caller}
 use Rattle.depot_rows.proofs.Keys.{same-is, left-true, right-true, number-is}
 use Rattle.sound_deeds.specs.Keeping.{IsOpenChange}
 use Rattle.sound_file_steps.proofs.Flat.{Meets, Shuts, flat_sound, shuts_sound}
-use Rattle.sound_file_steps.proofs.Known.{opened_known, opened_are, IsKnown}
-use Rattle.sound_file_steps.proofs.Steps.{AllOf, not_refused, all_filtered, joined, unless_all, within_all, all_of_all, over_these}
+use Rattle.depot_facts.proofs.PathsTold.{opened_are}
+use Rattle.sound_file_steps.proofs.Known.{opened_known, IsKnown}
+use Rattle.depot_facts.proofs.Steps.{AllOf, not_refused, all_filtered, joined, unless_all, within_all, all_of_all, over_these}
 
 pub only : (b : Bool) → b ≡ true → (b && true) ≡ true
 only true e = refl

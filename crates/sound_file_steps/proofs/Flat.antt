@@ -14,7 +14,7 @@ use Rattle.depot_rows.specs.depot_model.Rules.{IsSound, has_paths}
 use Rattle.depot_rows.specs.depot_model.Step.{after}
 use Rattle.sound_deeds.specs.Keeping.{Keeps, Ties, AllKeep, AllTie, IsTaken}
 use Rattle.sound_deeds.proofs.Whole.{all_sound, one_sound}
-use Rattle.sound_file_steps.proofs.Steps.{AllOf}
+use Rattle.depot_facts.proofs.Steps.{AllOf}
 
 -- deeds on files after which as many files are opened as before
 abbrev pub is_plain : Deed → Bool

@@ -31,11 +31,11 @@ use Rattle.sound_deeds.specs.Keeping.{IsOpenChange, IsTaken, OpeningKeeps, is_mo
 use Rattle.sound_deeds.proofs.Unmoved.{le_self}
 use Rattle.sound_deeds.proofs.Whole.{all_sound}
 use Rattle.sound_file_steps.proofs.Files.{only, named_change_ok}
-use Rattle.sound_file_steps.proofs.Known.{submitted_are}
+use Rattle.depot_facts.proofs.PathsTold.{submitted_are}
 use Rattle.sound_file_steps.proofs.Moving.{target_is, opening_has}
 use Rattle.sound_file_steps.proofs.Opening.{rev_type}
 use Rattle.sound_file_steps.proofs.Steady.{Same, same_self, same_then}
-use Rattle.sound_file_steps.proofs.Steps.{NoneOf, all_filtered, after_joined, unless_sound, within_sound}
+use Rattle.depot_facts.proofs.Steps.{NoneOf, all_filtered, after_joined, unless_sound, within_sound}
 
 -- ---- numbers that rise, from one on and up to another
 

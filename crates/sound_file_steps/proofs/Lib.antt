@@ -1,8 +1,6 @@
-pub mod Steps
 pub mod Flat
 pub mod Known
 pub mod Files
-pub mod Spelled
 pub mod Tagging
 pub mod Opening
 pub mod Steady

@@ -25,13 +25,14 @@ use Rattle.depot_rows.specs.depot_model.declared.command.PatternArgument.{Patter
 use Rattle.depot_rows.specs.depot_model.declared.refusal.Refusal.TheVariants.{NotInView, AlreadyOpen, Exists, NotMovable}
 use Rattle.depot_rows.specs.depot_model.declared.request.Caller.{Caller}
 use Rattle.sound_deeds.specs.Keeping.{IsOpenChange, IsTaken, is_move}
-use Rattle.sound_deeds.proofs.Files.{ArePaths, are_paths}
+use Rattle.depot_facts.proofs.OpenFiles.{ArePaths, are_paths}
 use Rattle.sound_deeds.proofs.Unmoved.{le_self}
 use Rattle.sound_file_steps.proofs.Files.{only, named_change_ok}
-use Rattle.sound_file_steps.proofs.Known.{IsKnown, opened_known, opened_are}
+use Rattle.depot_facts.proofs.PathsTold.{opened_are}
+use Rattle.sound_file_steps.proofs.Known.{IsKnown, opened_known}
 use Rattle.sound_file_steps.proofs.Opening.{first_live_is, files_at_are}
 use Rattle.sound_file_steps.proofs.Steady.{Stands, Same, same_self, same_back, same_then, same_after, steady_sound, all_stand}
-use Rattle.sound_file_steps.proofs.Steps.{AllOf, not_refused, all_filtered, joined, unless_all, within_all}
+use Rattle.depot_facts.proofs.Steps.{AllOf, not_refused, all_filtered, joined, unless_all, within_all}
 
 -- ---- files in turn, each over the depot that those before it leave
 

@@ -40,13 +40,14 @@ use Rattle.depot_rows.proofs.Keys.{left-true, right-true}
 use Rattle.depot_rows.proofs.Spelled.{at_path-here}
 use Rattle.sound_deeds.specs.Keeping.{is_move}
 use Rattle.sound_deeds.specs.Loose.{IsLooseRow}
-use Rattle.sound_deeds.proofs.Files.{ArePaths, are_paths}
+use Rattle.depot_facts.proofs.OpenFiles.{ArePaths, are_paths}
 use Rattle.sound_deeds.proofs.Parts.{loose_of}
 use Rattle.sound_deeds.proofs.Unmoved.{le_self}
 use Rattle.sound_file_steps.proofs.Files.{only, named_change_ok}
 use Rattle.sound_file_steps.proofs.Flat.{Meets, flat_sound}
-use Rattle.sound_file_steps.proofs.Known.{IsKnown, opened_known, have_known, labelled_known, submitted_are, had_are}
-use Rattle.sound_file_steps.proofs.Steps.{AllOf, all_filtered, unless_all, within_all, over_where, over_these, over_any}
+use Rattle.depot_facts.proofs.PathsTold.{submitted_are, had_are}
+use Rattle.sound_file_steps.proofs.Known.{IsKnown, opened_known, have_known, labelled_known}
+use Rattle.depot_facts.proofs.Steps.{AllOf, all_filtered, unless_all, within_all, over_where, over_these, over_any}
 
 -- ---- the files at a client path
 

@@ -25,7 +25,7 @@ use Rattle.depot_rows.specs.depot_model.Steps.Opening.{right_refusal}
 use Rattle.depot_rows.specs.depot_model.declared.refusal.Refusal.TheVariants.{NotInView, NoSuchChange, NoSuchJob, NoShelf}
 use Rattle.depot_rows.specs.depot_model.declared.request.Caller.{Caller}
 use Rattle.depot_rows.specs.spec_form.Form.{FormValue}
-use Rattle.sound_file_steps.proofs.Steps.{AllOf, over_these, over_any, unless_all, unless_sound}
+use Rattle.depot_facts.proofs.Steps.{AllOf, over_these, over_any, unless_all, unless_sound}
 
 abbrev None_ : Deed → Type 0
 None_ deed = ⊥

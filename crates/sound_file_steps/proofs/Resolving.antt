@@ -27,14 +27,15 @@ use Rattle.depot_rows.proofs.Keys.{same-is, left-true, right-true}
 use Rattle.depot_rows.proofs.Spelled.{at_path-here}
 use Rattle.sound_deeds.specs.Keeping.{IsTaken}
 use Rattle.sound_deeds.specs.Loose.{IsLooseRow}
-use Rattle.sound_deeds.proofs.Files.{ArePaths, are_paths}
+use Rattle.depot_facts.proofs.OpenFiles.{ArePaths, are_paths}
 use Rattle.sound_deeds.proofs.Parts.{loose_of}
-use Rattle.sound_deeds.proofs.Tables.{owed_is, IsOwed}
+use Rattle.depot_facts.proofs.Resolves.{owed_is, IsOwed}
 use Rattle.sound_file_steps.proofs.Files.{only}
-use Rattle.sound_file_steps.proofs.Known.{IsKnown, opened_known, opened_are, rev_known, client_known}
+use Rattle.depot_facts.proofs.PathsTold.{opened_are}
+use Rattle.sound_file_steps.proofs.Known.{IsKnown, opened_known, rev_known, client_known}
 use Rattle.sound_file_steps.proofs.Moving.{opening_has}
 use Rattle.sound_file_steps.proofs.Steady.{Stands, Same, same_self, same_back, same_then, same_after, steady_sound, all_stand}
-use Rattle.sound_file_steps.proofs.Steps.{AllOf, all_filtered, joined, unless_all, within_all, over_any}
+use Rattle.depot_facts.proofs.Steps.{AllOf, all_filtered, joined, unless_all, within_all, over_any}
 
 -- ---- a resolve that is owed
 

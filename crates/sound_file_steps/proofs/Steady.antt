@@ -9,7 +9,7 @@ use Rattle.depot_rows.specs.depot_model.Rules.{IsSound, has_paths}
 use Rattle.depot_rows.specs.depot_model.Step.{after}
 use Rattle.sound_deeds.specs.Keeping.{Keeps, Ties, AllKeep, AllTie, IsTaken}
 use Rattle.sound_deeds.proofs.Whole.{all_sound}
-use Rattle.sound_file_steps.proofs.Steps.{AllOf}
+use Rattle.depot_facts.proofs.Steps.{AllOf}
 
 abbrev pub is_steady : Deed → Bool
 is_steady (Open o) = true

@@ -29,15 +29,13 @@ use Rattle.depot_rows.specs.depot_model.declared.reply.Row.{Row}
 use Rattle.depot_rows.specs.depot_model.declared.request.Caller.{Caller}
 use Rattle.depot_rows.proofs.Keys.{same-self}
 use Rattle.sound_deeds.proofs.Whole.{one_sound}
-use Rattle.sound_file_steps.proofs.Spelled.{label_spelled}
+use Rattle.depot_facts.proofs.Spelled.{label_spelled}
 use Rattle.sound_file_steps.proofs.Files.{only}
 use Rattle.sound_file_steps.proofs.Flat.{Meets, flat_sound}
-use Rattle.sound_file_steps.proofs.Known.{labelled_known, live_within, submitted_are}
-use Rattle.sound_file_steps.proofs.Steps.{AllOf, not_refused, all_filtered, unless_all, within_all, over_these, over_any, unless_sound, within_sound}
-
-not_false : (b : Bool) → not b ≡ false → b ≡ true
-not_false true e = refl
-not_false false e = absurd cc
+use Rattle.depot_facts.proofs.PathsTold.{submitted_are}
+use Rattle.sound_file_steps.proofs.Known.{labelled_known, live_within}
+use Rattle.depot_facts.proofs.Steps.{AllOf, not_refused, all_filtered, unless_all, within_all, over_these, over_any, unless_sound, within_sound}
+use Rattle.depot_facts.proofs.Tests.{not_false}
 
 -- deeds over a depot with the label, of revisions chosen in the one before it
 module _ (d e : List Deed) (sound : IsSound d) (caller : Caller) (label : List ℕ) (there : is_label e label ≡ true)

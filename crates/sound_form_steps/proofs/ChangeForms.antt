@@ -30,7 +30,7 @@ use Rattle.sound_deeds.proofs.Whole.{one_sound}
 use Rattle.sound_file_steps.proofs.Files.{change_ok}
 use Rattle.sound_file_steps.proofs.Flat.{Meets, flat_sound}
 use Rattle.sound_file_steps.proofs.Known.{IsKnown, opened_known}
-use Rattle.sound_file_steps.proofs.Steps.{AllOf, NoneOf, not_refused, unless_sound}
+use Rattle.depot_facts.proofs.Steps.{AllOf, NoneOf, not_refused, unless_sound}
 
 pub none_back : (xs ys : List (Option Refusal)) → NoneOf (xs ++ ys) → NoneOf ys
 none_back [] ys h = h

@@ -1,15 +1,21 @@
 -- Steps that save and delete pending changes; and the step of a checkpoint.
-use Rattle.std.proofs.Common.{◌≡◌, ◌≤◌, ◌+◌, ℕ, Bool, true, false, List, [], ◌∷◌, length, Option, Some, None, inl, inr, refl, sym, ap, subst, ◌∙◌, arith}
-use Rattle.std.specs.Prelude.{◌||◌, not, codes, nat_le, nat_lt, IfSome, IsSomeAnd, is_some}
+use Rattle.std.proofs.Common.{◌≡◌, ◌≢◌, ◌≤◌, ◌+◌, ℕ, Bool, true, false, List, [], ◌∷◌, length, Option, Some, None, inl, inr, refl, sym, ap, subst, ◌∙◌, arith}
+use Rattle.std.specs.Prelude.{◌&&◌, ◌||◌, not, codes, decimal, filter_map, nat_le, nat_lt, IfSome, IsSomeAnd, IsTrue, is_some}
 use Rattle.std.specs.Option.{option_map_or}
 use Rattle.std.proofs.lemmas.Bool.Decides.{nat_tests}
 use Rattle.depot_rows.specs.depot_path.Bytes.{same}
-use Rattle.depot_rows.specs.depot_model.Deeds.{Deed, Drop, Count, Opening, Pending}
-use Rattle.depot_rows.specs.depot_model.Fixes.{is_fixing}
+use Rattle.depot_rows.specs.spec_form.Form.{FormValue}
+use Rattle.depot_rows.specs.spec_form.Printing.{printed_form}
+use Rattle.depot_rows.specs.spec_form.declared.shape.Shape.TheVariants.{Shelf as ShelfShape, Fix as FixShape}
+use Rattle.depot_rows.specs.depot_model.Deeds.{Deed, Drop, Count, Opening, Pending, ShelfForm, FixForm}
+use Rattle.depot_rows.specs.depot_model.Fixes.{is_fixing, is_on, fixes_of, fixes_on}
+use Rattle.depot_rows.specs.depot_model.Latest.{keys_of, spec, spec_name, spec_said}
+use Rattle.depot_rows.specs.depot_model.Numerals.{is_numeral}
 use Rattle.depot_rows.specs.depot_model.Numbers.{pending, landing}
 use Rattle.depot_rows.specs.depot_model.Opened.{opened}
-use Rattle.depot_rows.specs.depot_model.Rules.{IsSound}
-use Rattle.depot_rows.specs.depot_model.Shelves.{is_shelved}
+use Rattle.depot_rows.specs.depot_model.Rules.{IsSound, value_in}
+use Rattle.depot_rows.specs.depot_model.Shelves.{is_kept, is_of_change, is_shelved}
+use Rattle.depot_rows.specs.depot_model.Values.{value_of}
 use Rattle.depot_rows.specs.depot_model.Step.{after, refuse_if}
 use Rattle.depot_rows.specs.depot_model.Steps.Changing.{change_delete, delete_refusals}
 use Rattle.depot_rows.specs.depot_model.Steps.Checkpoint.{generation, checkpoint}
@@ -18,27 +24,56 @@ use Rattle.depot_rows.specs.depot_model.Steps.Submitting.{openings_of}
 use Rattle.depot_rows.specs.depot_model.declared.refusal.Refusal.TheVariants.{NotYours, NotDeletable, OverLimit}
 use Rattle.depot_rows.specs.depot_model.declared.refusal.Limit.TheVariants.{Generation}
 use Rattle.depot_rows.specs.depot_model.declared.request.Caller.{Caller}
-use Rattle.depot_rows.proofs.Keys.{same-is, right-true}
-use Rattle.sound_deeds.specs.Keeping.{HasNoOpening, IsOpenChange}
+use Rattle.depot_rows.proofs.Keys.{same-is, same-self, left-true, right-true}
+use Rattle.sound_deeds.specs.Keeping.{HasNoFix, HasNoOpening, HasNoShelf, IsOpenChange}
 use Rattle.sound_deeds.proofs.Whole.{one_sound}
-use Rattle.sound_form_steps.proofs.Found.{opening_in, no_fix, no_shelf}
+use Rattle.depot_facts.proofs.OpenFiles.{in_openings}
+use Rattle.depot_facts.proofs.Decimals.{numeral_is}
+use Rattle.depot_facts.proofs.Found.{saved_fix, saved_shelf, shelf_there, spec_names, spec_value}
+use Rattle.depot_facts.proofs.Members.{key_in}
+use Rattle.depot_facts.specs.Fields.{number_of_field}
 use Rattle.sound_file_steps.proofs.Known.{IsKnown, opened_known}
-use Rattle.sound_form_steps.proofs.Members.{In, in_some}
-use Rattle.sound_file_steps.proofs.Steps.{not_refused, unless_sound}
-
-either_false : (a b : Bool) → (a || b) ≡ false → (a ≡ false) × (b ≡ false)
-either_false true b e = absurd cc
-either_false false b e = (refl, e)
-
-not_false : (b : Bool) → not b ≡ false → b ≡ true
-not_false true e = refl
-not_false false e = absurd cc
+use Rattle.depot_facts.proofs.Listed.{filter_in, filter_map_in, in_some}
+use Rattle.depot_rows.proofs.Entries.{In}
+use Rattle.depot_facts.proofs.Steps.{not_refused, unless_sound}
+use Rattle.depot_facts.proofs.Tests.{not_false, either_false}
 
 none_of : {A : Type 0} (o : Option A) → is_some o ≡ false → o ≡ None
 none_of None e = refl
 none_of (Some x) e = absurd cc
 
 module _ (d : List Deed) (sound : IsSound d) where
+  -- ---- what stands in no list of a depot: fixes and shelved files
+
+  no_fix : (n : ℕ) → is_fixing d n ≡ false → HasNoFix d n
+  no_fix n none name = go (spec d FixForm name) refl
+    where
+      go : (o : Option FormValue) → spec d FixForm name ≡ o → IfSome o (λ form. IsTrue (is_on form) → number_of_field form (codes "Change") ≢ n)
+      go None e = tt
+      go (Some form) e = λ on is.
+          let value : value_in FixShape (codes "Change") (printed_form form) ≡ value_of form (codes "Change") = spec_value d sound FixForm name form e (codes "Change") in
+          let numeral : is_numeral (value_of form (codes "Change")) ≡ true =
+          ap is_numeral (sym value) ∙ left-true _ _ ((saved_fix d sound name form e).change) in
+          let text : value_of form (codes "Change") ≡ decimal n = numeral_is (value_of form (codes "Change")) numeral ∙ ap decimal is in
+          let of : is_of_change n form ≡ true = ap (λ (w : List ℕ). same w (decimal n)) text ∙ same-self (decimal n) in
+          let there : In (fixes_of d n) form =
+          filter_in (is_of_change n) (fixes_on d) form (filter_in is_on (filter_map (spec d FixForm) (keys_of (spec_name FixForm) d)) form
+          (filter_map_in (spec d FixForm) (keys_of (spec_name FixForm) d) name form (key_in (spec_said FixForm name) (spec_name FixForm) name form (spec_names FixForm name form) d e) e) on) of in
+          let some = in_some (fixes_of d n) form there in
+          absurd (let clash : true ≡ false = sym some ∙ none in cc)
+
+  no_shelf : (n : ℕ) → is_shelved d n ≡ false → HasNoShelf d n
+  no_shelf n none name = go (spec d ShelfForm name) refl
+    where
+      go : (o : Option FormValue) → spec d ShelfForm name ≡ o → IfSome o (λ form. IsTrue (is_kept form) → number_of_field form (codes "Change") ≢ n)
+      go None e = tt
+      go (Some form) e = λ on is.
+          let value : value_in ShelfShape (codes "Change") (printed_form form) ≡ value_of form (codes "Change") = spec_value d sound ShelfForm name form e (codes "Change") in
+          let numeral : is_numeral (value_of form (codes "Change")) ≡ true = ap is_numeral (sym value) ∙ left-true _ _ ((saved_shelf d sound name form e).change) in
+          let text : value_of form (codes "Change") ≡ decimal n = numeral_is (value_of form (codes "Change")) numeral ∙ ap decimal is in
+          let of : is_of_change n form ≡ true = ap (λ (w : List ℕ). same w (decimal n)) text ∙ same-self (decimal n) in
+          absurd (let clash : true ≡ false = sym (shelf_there d sound n name form e on of) ∙ none in cc)
+
   -- ---- change -d
 
   module _ (caller : Caller) (n : ℕ) (unshelved : is_shelved d n ≡ false) (unfixed : is_fixing d n ≡ false) where
@@ -61,7 +96,7 @@ module _ (d : List Deed) (sound : IsSound d) where
             at None f h = h
             at (Some q) f h =
                 let mine : client ≡ caller.client = sym same_client ∙ sym h ∙ its_client (pending d n) q f own in
-                let there : In (openings_of d caller n) o = opening_in d caller n path o (ap (λ (c : List ℕ). opened d c path) (sym mine) ∙ e) is in
+                let there : In (openings_of d caller n) o = in_openings d caller n path o (ap (λ (c : List ℕ). opened d c path) (sym mine) ∙ e) is in
                 let some_opened = in_some (openings_of d caller n) o there in
                 absurd (let clash : true ≡ false = sym some_opened ∙ empty in cc)
 
@@ -75,7 +110,7 @@ module _ (d : List Deed) (sound : IsSound d) where
     change_delete_sound = unless_sound d sound (delete_refusals d caller n) _ (λ none.
         let own = either_false _ _ (not_refused _ (NotYours n) none.1.0) in
         let free = either_false (is_some (landing d n)) _ (not_refused _ (NotDeletable n) none.1.1.0) in
-        one_sound d (Drop n) sound refl (none_of (landing d n) free.0, no_shelf d sound n unshelved) (unopened own.0 free.1, no_fix d sound n unfixed))
+        one_sound d (Drop n) sound refl (none_of (landing d n) free.0, no_shelf n unshelved) (unopened own.0 free.1, no_fix n unfixed))
 
   -- ---- checkpoint
 

@@ -15,7 +15,7 @@ use Rattle.depot_rows.specs.depot_model.Latest.{spec, spec_said, latest, when}
 use Rattle.depot_rows.specs.depot_model.Numbers.{top}
 use Rattle.depot_rows.specs.depot_model.Numerals.{is_numeral}
 use Rattle.depot_rows.specs.depot_model.Records.{record_of}
-use Rattle.depot_rows.specs.depot_model.Rules.{IsSound, IsOneOf, IsSpelled, top_in, number_in}
+use Rattle.depot_rows.specs.depot_model.Rules.{IsSound, IsFix, IsOneOf, IsSpelled, top_in, number_in}
 use Rattle.depot_rows.specs.depot_model.Step.{Step, nothing, after, all_of}
 use Rattle.depot_rows.specs.depot_model.Steps.Jobs.{unfix, unfix_job, fix_delete, distinct, is_change, no_job}
 use Rattle.depot_rows.specs.depot_model.declared.refusal.Refusal.TheVariants.{NoSuchChange}
@@ -23,15 +23,14 @@ use Rattle.depot_rows.specs.depot_model.Step.{refuse_if}
 use Rattle.depot_rows.proofs.ChangeCounter.{top_value}
 use Rattle.depot_rows.proofs.Keys.{left-true, right-true}
 use Rattle.sound_deeds.specs.Keeping.{FixKeeps, FixesFit}
-use Rattle.sound_deeds.specs.Loose.{IsLooseFix}
 use Rattle.sound_deeds.proofs.Parts.{loose_of, tied_of}
-use Rattle.sound_deeds.proofs.Read.{spelled_reads, value_is, number_is}
+use Rattle.depot_facts.proofs.Read.{spelled_reads, value_is, number_is}
 use Rattle.sound_deeds.proofs.Ties.{fix_said}
 use Rattle.sound_deeds.proofs.Whole.{one_sound}
-use Rattle.sound_form_steps.proofs.Fields.{other_value, own_value, has_valued, state_spelled}
-use Rattle.sound_form_steps.proofs.Found.{saved_fix, spelled}
+use Rattle.depot_facts.proofs.Fields.{other_value, own_value, has_valued, state_spelled}
+use Rattle.depot_facts.proofs.Found.{saved_fix, spelled}
 use Rattle.sound_file_steps.proofs.Known.{job_known}
-use Rattle.sound_file_steps.proofs.Steps.{AllOf, joined, unless_all}
+use Rattle.depot_facts.proofs.Steps.{AllOf, joined, unless_all}
 
 -- the fixes of a sound depot fit
 pub fixes_fit : (d : List Deed) → IsSound d → FixesFit d
@@ -100,7 +99,7 @@ offs_sound d (deed ∷ deeds) sound m =
 -- ---- fix -d
 
 module _ (d : List Deed) (sound : IsSound d) (n : ℕ) (name : List ℕ) (form : FormValue) (saved : spec d FixForm (fix_name name n) ≡ Some form) (on : is_on form ≡ true) where
-  fix : IsLooseFix (record_of d) (fix_name name n) (printed_form form)
+  fix : IsFix (record_of d) (fix_name name n) (printed_form form)
   fix = saved_fix d sound (fix_name name n) form saved
 
   is_form : IsSpelled FixForm form

@@ -12,8 +12,8 @@ use Rattle.depot_rows.specs.depot_model.Rules.{IsSound, has_its_content, have_th
 use Rattle.depot_rows.specs.depot_model.Steps.Submitting.{content_at}
 use Rattle.depot_rows.proofs.Keys.{left-true, right-true}
 use Rattle.sound_deeds.proofs.Facts.{rev_is}
-use Rattle.sound_deeds.proofs.Revised.{rev_low}
-use Rattle.sound_file_steps.proofs.Known.{both_true}
+use Rattle.depot_facts.proofs.Revised.{rev_low}
+use Rattle.depot_facts.proofs.Tests.{both_true}
 
 pub head_small : (d : List Deed) → IsSound d → (path : List ℕ) → is_path path ≡ true → (n : ℕ) → n ≤ head d path → n < 2 ^ 64
 head_small d sound path is zero le = omega arith

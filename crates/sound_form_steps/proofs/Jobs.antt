@@ -24,16 +24,12 @@ use Rattle.depot_rows.specs.depot_model.declared.refusal.Refusal.TheVariants.{Ba
 use Rattle.depot_rows.specs.depot_model.declared.refusal.Limit.TheVariants.{Text, Jobs}
 use Rattle.depot_rows.proofs.Keys.{same-is, same-self, left-true, right-true}
 use Rattle.sound_deeds.proofs.Whole.{one_sound}
-use Rattle.sound_form_steps.proofs.Fields.{other_value, own_value, has_valued, job_spelled}
-use Rattle.sound_form_steps.proofs.Found.{saved_job}
-use Rattle.sound_file_steps.proofs.Known.{both_true}
-use Rattle.sound_deeds.proofs.Decimals.{Writes, written, digits_without, digits_utf8}
-use Rattle.sound_file_steps.proofs.Spelled.{spelled_is}
-use Rattle.sound_file_steps.proofs.Steps.{not_refused, unless_sound}
-
-not_false : (b : Bool) → not b ≡ false → b ≡ true
-not_false true e = refl
-not_false false e = absurd cc
+use Rattle.depot_facts.proofs.Fields.{other_value, own_value, has_valued, job_spelled}
+use Rattle.depot_facts.proofs.Found.{saved_job}
+use Rattle.depot_facts.proofs.Decimals.{Writes, written, digits_without, digits_utf8}
+use Rattle.depot_facts.proofs.Spelled.{spelled_is}
+use Rattle.depot_facts.proofs.Steps.{not_refused, unless_sound}
+use Rattle.depot_facts.proofs.Tests.{not_false, both_true}
 
 -- ---- names of jobs
 

@@ -35,19 +35,19 @@ use Rattle.depot_rows.specs.depot_model.declared.request.Content.{Content}
 use Rattle.depot_rows.specs.depot_model.declared.request.Request.{Request}
 use Rattle.depot_rows.proofs.ChangeCounter.{change_of, top_value}
 use Rattle.depot_rows.proofs.Keys.{left-true, right-true, number-is}
-use Rattle.sound_deeds.specs.Keeping.{ShelfKeeps, KeepsShelf, HasSource, IsTaken, number_of_field, has_value_of, is_number_of}
-use Rattle.sound_deeds.proofs.Files.{ArePaths, are_paths}
+use Rattle.depot_facts.specs.Fields.{number_of_field, has_value_of, is_number_of}
+use Rattle.sound_deeds.specs.Keeping.{ShelfKeeps, KeepsShelf, HasSource, IsTaken}
+use Rattle.depot_facts.proofs.OpenFiles.{ArePaths, are_paths}
 use Rattle.sound_deeds.proofs.Whole.{one_sound}
 use Rattle.sound_form_steps.specs.Contents.{fits_content}
-use Rattle.sound_form_steps.proofs.Fields.{value_back}
+use Rattle.depot_facts.proofs.Fields.{value_back}
 use Rattle.sound_form_steps.proofs.Heads.{head_small, live_content}
-use Rattle.sound_form_steps.proofs.KeptForms.{kept_spelled}
+use Rattle.depot_facts.proofs.KeptForms.{kept_spelled}
 use Rattle.sound_file_steps.proofs.Known.{IsKnown, opened_known, not_empty}
-use Rattle.sound_deeds.proofs.Decimals.{written, numeral_decimal, number_decimal}
-use Rattle.sound_file_steps.proofs.Spelled.{good_name}
-use Rattle.sound_file_steps.proofs.Steps.{AllOf, not_refused, all_filtered, passed, unless_all, over_any}
-use Rattle.sound_form_steps.proofs.Unshelving.{good_path, good_decimal}
-use Rattle.sound_form_steps.proofs.Values.{type_named, good_content, content_is}
+use Rattle.depot_facts.proofs.Decimals.{written, numeral_decimal, number_decimal}
+use Rattle.depot_facts.proofs.Spelled.{good_name}
+use Rattle.depot_facts.proofs.Steps.{AllOf, not_refused, all_filtered, passed, unless_all, over_any}
+use Rattle.depot_facts.proofs.Values.{good_path, good_decimal, type_named, good_content, content_is}
 
 or_true : (a b : Bool) → b ≡ true → (a || b) ≡ true
 or_true true b e = refl

@@ -1,17 +1,12 @@
 pub mod Saves
-pub mod Members
-pub mod Found
 pub mod Changing
 pub mod ChangeForms
 pub mod Shelving
 pub mod Words
-pub mod Fields
 pub mod Fixing
 pub mod Jobs
 pub mod Unshelving
 pub mod Counting
 pub mod Putting
-pub mod Values
 pub mod Heads
-pub mod KeptForms
 pub mod Keeping

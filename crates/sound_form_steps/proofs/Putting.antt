@@ -5,6 +5,7 @@ use Rattle.std.specs.List.{list_all, list_any}
 use Rattle.std.specs.Option.{option_or}
 use Rattle.std.specs.Str.{bytes_eq}
 use Rattle.std.proofs.lemmas.Bool.Decides.{nat_tests}
+use Rattle.std.proofs.lemmas.Bool.{not-true}
 use Rattle.depot_rows.specs.depot_path.Bytes.{same, is_digit, is_among}
 use Rattle.depot_rows.specs.depot_path.Digits.{number_of, is_digits}
 use Rattle.depot_rows.specs.depot_path.Name.{is_name}
@@ -33,24 +34,23 @@ use Rattle.depot_rows.specs.depot_model.declared.refusal.Limit.TheVariants.{Fixe
 use Rattle.depot_rows.specs.depot_model.declared.request.Caller.{Caller}
 use Rattle.depot_rows.proofs.ChangeCounter.{change_of, top_value}
 use Rattle.depot_rows.proofs.Keys.{same-is, same-self, left-true, right-true}
-use Rattle.sound_deeds.specs.Keeping.{FixKeeps, JobKeeps, FixesFit, IsChange, number_of_field}
-use Rattle.sound_deeds.proofs.Read.{spelled_reads, value_is}
+use Rattle.depot_facts.specs.Fields.{number_of_field}
+use Rattle.sound_deeds.specs.Keeping.{FixKeeps, JobKeeps, FixesFit, IsChange}
+use Rattle.depot_facts.proofs.Read.{spelled_reads, value_is}
 use Rattle.sound_deeds.proofs.Whole.{one_sound}
 use Rattle.sound_form_steps.proofs.ChangeForms.{none_front, none_back}
 use Rattle.sound_form_steps.proofs.Counting.{AllIn, no_more, parted, distinct_kept}
-use Rattle.sound_form_steps.proofs.Fields.{value_back, other_value, own_value, has_valued, status_spelled}
+use Rattle.depot_facts.proofs.Fields.{value_back, other_value, own_value, has_valued, status_spelled}
 use Rattle.sound_form_steps.proofs.Fixing.{fixes_fit}
-use Rattle.sound_form_steps.proofs.Found.{saved_fix, saved_job, spelled, spec_names}
+use Rattle.depot_facts.proofs.Found.{saved_fix, saved_job, spelled, spec_names}
 use Rattle.sound_form_steps.proofs.Jobs.{job_shape, named_job}
-use Rattle.sound_form_steps.proofs.Members.{In, in_filter, in_mapped, key_in}
-use Rattle.sound_deeds.proofs.Decimals.{decimal_digits, numeral_decimal, number_decimal, parts_is}
-use Rattle.sound_file_steps.proofs.Spelled.{good_name}
-use Rattle.sound_file_steps.proofs.Steps.{NoneOf, not_refused, unless_sound, after_joined}
-use Rattle.sound_form_steps.proofs.Unshelving.{good_decimal}
-
-is_false : (b : Bool) → not b ≡ true → b ≡ false
-is_false true e = absurd cc
-is_false false e = refl
+use Rattle.depot_facts.proofs.Listed.{filter_in, filter_map_in}
+use Rattle.depot_facts.proofs.Members.{key_in}
+use Rattle.depot_rows.proofs.Entries.{In}
+use Rattle.depot_facts.proofs.Decimals.{decimal_digits, numeral_decimal, number_decimal, parts_is}
+use Rattle.depot_facts.proofs.Spelled.{good_name}
+use Rattle.depot_facts.proofs.Steps.{NoneOf, not_refused, unless_sound, after_joined}
+use Rattle.depot_facts.proofs.Values.{good_decimal}
 
 -- ---- lists
 
@@ -80,7 +80,7 @@ good_value value e =
       value = value;
       is = refl;
       clean = record {
-        one = is_false (is_among value 0x0A) (right-true (is_utf8 value) (not (is_among value 0x0A)) two);
+        one = not-true (is_among value 0x0A) (right-true (is_utf8 value) (not (is_among value 0x0A)) two);
         utf8 = left-true (is_utf8 value) (not (is_among value 0x0A)) two;
       };
       trimmed = same-is (trimmed_start value) value (right-true (is_utf8 value && not (is_among value 0x0A)) (bytes_eq (trimmed_start value) value) e);
@@ -126,8 +126,8 @@ module _ (d : List Deed) (sound : IsSound d) (n : ℕ) (all : List (List ℕ))
           let parts = parts_is name (value_of form (codes "Job")) (decimal n) (value_of form (codes "Change")) (decimal_digits n) digits names_same in
           let of : is_of_change n form ≡ true = ap (λ (w : List ℕ). same w (decimal n)) (sym parts.1) ∙ same-self (decimal n) in
           let there : In (fixes_of d n) form =
-          in_filter (is_of_change n) (fixes_on d) form (in_filter is_on (filter_map (spec d FixForm) (keys_of (spec_name FixForm) d)) form
-          (in_mapped (spec d FixForm) (keys_of (spec_name FixForm) d) (fix_name name n) form
+          filter_in (is_of_change n) (fixes_on d) form (filter_in is_on (filter_map (spec d FixForm) (keys_of (spec_name FixForm) d)) form
+          (filter_map_in (spec d FixForm) (keys_of (spec_name FixForm) d) (fix_name name n) form
           (key_in (spec_said FixForm (fix_name name n)) (spec_name FixForm) (fix_name name n) form (spec_names FixForm (fix_name name n) form) d e) e) on) of in
           subst (λ (w : List ℕ). In (map fixed_job (fixes_of d n)) w) (sym parts.0) (in_map fixed_job (fixes_of d n) form there)
 
@@ -163,10 +163,10 @@ module _ (d : List Deed) (sound : IsSound d) (n : ℕ) (all : List (List ℕ))
               either : (has_fix d m x ≡ true) ⊎ ((decimal m ≡ decimal n) × In all x) → In (filter (λ y. not (has_fix d n y)) all) x
               either (inl g) = absurd (
                   let f : has_fix d n x ≡ true = ap (λ (w : List ℕ). elim (spec d FixForm (x ++ 0x20 ∷ w)) as (λ _. Bool) [ None ↦ false | Some form ↦ is_on form ]) (sym numbers) ∙ g in
-                  let no_fix : has_fix d n x ≡ false = is_false (has_fix d n x) h in
+                  let no_fix : has_fix d n x ≡ false = not-true (has_fix d n x) h in
                   let clash : true ≡ false = sym f ∙ no_fix in
                   cc)
-              either (inr g) = in_filter (λ y. not (has_fix d n y)) all x g.1 h
+              either (inr g) = filter_in (λ y. not (has_fix d n y)) all x g.1 h
 
           same_length : (fs : List FormValue) → length (map fixed_job fs) ≡ length fs
           same_length [] = refl

@@ -22,12 +22,9 @@ use Rattle.depot_rows.specs.depot_model.declared.refusal.Refusal.{Refusal}
 use Rattle.depot_rows.specs.depot_model.declared.refusal.Refusal.TheVariants.{BadForm}
 use Rattle.depot_rows.specs.depot_model.declared.reply.Row.{Row}
 use Rattle.sound_deeds.proofs.Whole.{one_sound}
-use Rattle.sound_file_steps.proofs.Spelled.{spelled_is}
-use Rattle.sound_file_steps.proofs.Steps.{not_refused, unless_sound}
-
-not_false : (b : Bool) → not b ≡ false → b ≡ true
-not_false true e = refl
-not_false false e = absurd cc
+use Rattle.depot_facts.proofs.Spelled.{spelled_is}
+use Rattle.depot_facts.proofs.Steps.{not_refused, unless_sound}
+use Rattle.depot_facts.proofs.Tests.{not_false}
 
 module _ (d : List Deed) (sound : IsSound d) (input : List ℕ) where
   group_saved : (form : FormValue) → IsSound (after d (groups.saved input form).deeds)

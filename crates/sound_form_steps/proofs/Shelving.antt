@@ -5,10 +5,9 @@ use Rattle.std.specs.List.{list_all}
 use Rattle.std.proofs.lemmas.Bool.Decides.{nat_tests}
 use Rattle.depot_rows.specs.depot_path.Bytes.{same, is_digit, is_among}
 use Rattle.depot_rows.specs.depot_path.Digits.{number_of, is_digits}
-use Rattle.depot_rows.specs.depot_path.Path.{path_of, path_fault, printed, unescaped, unless as path_unless, is_path}
+use Rattle.depot_rows.specs.depot_path.Path.{path_of, printed, is_path}
 use Rattle.depot_rows.specs.depot_path.declared.fault.PathFault.{PathFault}
 use Rattle.depot_rows.specs.depot_path.declared.revision.Wanted.TheVariants.{Head}
-use Rattle.depot_rows.proofs.depot_path.Paths.{reads_path}
 use Rattle.depot_rows.specs.db_records.declared.key.Key.TheVariants as keys
 use Rattle.depot_rows.specs.db_records.declared.record.Record.{Record}
 use Rattle.depot_rows.proofs.spec_form.Cutting.{behind_at}
@@ -16,18 +15,18 @@ use Rattle.depot_rows.specs.spec_form.Form.{FormValue, lines_of}
 use Rattle.depot_rows.specs.spec_form.Printing.{printed_form}
 use Rattle.depot_rows.specs.spec_form.Texts.{behind}
 use Rattle.depot_rows.specs.spec_form.declared.shape.Shape.TheVariants.{Shelf as ShelfShape}
-use Rattle.depot_rows.specs.depot_model.Arguments.{named, names, over_all, no_file, within_files, paths_of}
+use Rattle.depot_rows.specs.depot_model.Arguments.{named, names, over_all, no_file, within_files}
 use Rattle.depot_rows.specs.depot_model.Asking.{is_client, to_open}
 use Rattle.depot_rows.specs.depot_model.Choice.{shown}
-use Rattle.depot_rows.specs.depot_model.Deeds.{Deed, Spec, Open, ShelfForm, Source, Add, Edit, Delete}
+use Rattle.depot_rows.specs.depot_model.Deeds.{Deed, Open, ShelfForm, Source, Add, Edit, Delete}
 use Rattle.depot_rows.specs.depot_model.Latest.{spec, when}
 use Rattle.depot_rows.specs.depot_model.Numerals.{is_numeral}
 use Rattle.depot_rows.specs.depot_model.Opened.{opened}
 use Rattle.depot_rows.specs.depot_model.Records.{record_of, rev_record}
 use Rattle.depot_rows.specs.depot_model.Revisions.{head, revision}
 use Rattle.depot_rows.specs.depot_model.Rows.{action_word}
-use Rattle.depot_rows.specs.depot_model.Rules.{IsSound, IsShelf, IsKept, IsType, IsBase, HasRev, HasItsSource, has_paths, shelf_value, shelf_number, has_shelf_value}
-use Rattle.depot_rows.specs.depot_model.Shelves.{shelf_name, paths_in, is_of_change, is_kept, kept, kept_paths, shelf_paths, kept_base, kept_action, source_at, kept_source, kept_block, kept_opening}
+use Rattle.depot_rows.specs.depot_model.Rules.{IsSound, IsShelf, IsKept, IsType, IsBase, HasRev, HasItsSource, shelf_value, shelf_number, has_shelf_value}
+use Rattle.depot_rows.specs.depot_model.Shelves.{shelf_name, paths_in, is_kept, kept, kept_paths, kept_base, kept_action, source_at, kept_source, kept_block, kept_opening}
 use Rattle.depot_rows.specs.depot_model.Step.{Step, nothing, does, after, refuse_if}
 use Rattle.depot_rows.specs.depot_model.Steps.Opening.{named_change_refusal, right_refusal, exclusive_refusal}
 use Rattle.depot_rows.specs.depot_model.Steps.Shelving.{unshelve, unshelve_file, unshelve_opening, unshelved_row, shelf_refusal}
@@ -37,41 +36,16 @@ use Rattle.depot_rows.specs.depot_model.declared.refusal.Refusal.TheVariants.{No
 use Rattle.depot_rows.specs.depot_model.declared.request.Caller.{Caller}
 use Rattle.depot_rows.proofs.Keys.{same-is, left-true, right-true}
 use Rattle.sound_deeds.specs.Keeping.{IsTaken, is_move}
-use Rattle.sound_deeds.proofs.Read.{spelled_reads, value_is, has_is}
+use Rattle.depot_facts.proofs.Read.{spelled_reads, value_is, has_is}
 use Rattle.sound_file_steps.proofs.Files.{named_change_ok}
 use Rattle.sound_file_steps.proofs.Flat.{Meets, flat_sound}
-use Rattle.sound_form_steps.proofs.Found.{saved_shelf, spelled}
-use Rattle.sound_file_steps.proofs.Known.{paths_all, rev_known, base_known, IsWithin}
+use Rattle.depot_facts.proofs.Found.{saved_shelf, spelled}
+use Rattle.depot_facts.proofs.PathTexts.{read_path}
+use Rattle.depot_facts.proofs.PathsTold.{kept_are}
+use Rattle.sound_file_steps.proofs.Known.{rev_known, base_known, IsWithin}
 use Rattle.sound_file_steps.proofs.Moving.{opening_has}
-use Rattle.sound_deeds.proofs.Decimals.{decimal_digits, digits_without}
-use Rattle.sound_file_steps.proofs.Steps.{AllOf, all_filtered, unless_all, within_all, over_any}
-
--- ---- paths that texts spell
-
-pub read_path : (text path : List ℕ) → path_of text ≡ Ok path → is_path path ≡ true
-read_path text path e = go (path_fault text) refl e
-  where
-    go : (o : Option PathFault) → path_fault text ≡ o → path_unless o (unescaped 0 text) ≡ Ok path → is_path path ≡ true
-    go None f h = let one : unescaped 0 text ≡ path = cc in ap is_path (sym one) ∙ reads_path text f
-    go (Some fault) f h = absurd cc
-
-pub paths_in_are : (text : List ℕ) → list_all is_path (paths_in text) ≡ true
-paths_in_are text = go (path_of text) refl
-  where
-    go : (r : Result (List ℕ) PathFault) → path_of text ≡ r → list_all is_path (elim r as (λ _. List (List ℕ)) [ Err fault ↦ [] | Ok path ↦ path ∷ [] ]) ≡ true
-    go (Err fault) e = refl
-    go (Ok path) e = (λ i. read_path text path e i && true)
-
-shelf_told : (n : ℕ) (deed : Deed) → has_paths deed ≡ true → list_all is_path (shelf_paths n deed) ≡ true
-shelf_told n (Spec ShelfForm name form) has = go (is_of_change n form)
-  where
-    go : (b : Bool) → list_all is_path (if b then paths_in (value_of form (codes "Path")) else []) ≡ true
-    go true = paths_in_are (value_of form (codes "Path"))
-    go false = refl
-shelf_told n _ has = refl
-
-pub kept_are : (d : List Deed) → list_all has_paths d ≡ true → (n : ℕ) → list_all is_path (kept_paths d n) ≡ true
-kept_are d has n = all_filtered is_path (λ path. is_some (kept d n path)) (paths_of (shelf_paths n) d) (paths_all is_path (shelf_paths n) (shelf_told n) d has)
+use Rattle.depot_facts.proofs.Decimals.{decimal_digits, digits_without}
+use Rattle.depot_facts.proofs.Steps.{AllOf, all_filtered, unless_all, within_all, over_any}
 
 -- ---- a shelved file
 

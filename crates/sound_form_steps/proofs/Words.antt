@@ -22,8 +22,8 @@ use Rattle.depot_rows.specs.depot_model.declared.refusal.Limit.TheVariants.{Prot
 use Rattle.depot_rows.specs.depot_model.declared.reply.Row.{Row}
 use Rattle.depot_rows.proofs.Keys.{left-true, right-true, number-is}
 use Rattle.sound_deeds.proofs.Whole.{one_sound}
-use Rattle.sound_file_steps.proofs.Known.{both_true}
-use Rattle.sound_file_steps.proofs.Steps.{passed, unless_sound}
+use Rattle.depot_facts.proofs.Steps.{passed, unless_sound}
+use Rattle.depot_facts.proofs.Tests.{both_true}
 
 -- whether what follows a word stands in quotes, and whether no space parts it
 abbrev state : Bool → List ℕ → Bool

@@ -3,6 +3,7 @@ use Rattle.std.proofs.Common.{◌≡◌, ◌≢◌, ◌⊎◌, ◌≤◌, ◌<�
 use Rattle.std.specs.Prelude.{◌&&◌, ◌||◌, ◌==◌, IsTrue, IfSome, IsSome, option_map, flat_map, codes, decimal}
 use Rattle.std.specs.List.{list_all, list_any}
 use Rattle.std.specs.Option.{option_or}
+use Rattle.std.proofs.lemmas.Option.{same_Some}
 use Rattle.depot_rows.specs.depot_path.Bytes.{same}
 use Rattle.depot_rows.specs.depot_path.Digits.{number_of}
 use Rattle.depot_rows.specs.spec_form.Form.{FormValue, with_field, has_field}
@@ -22,17 +23,17 @@ use Rattle.depot_rows.specs.depot_model.Step.{after}
 use Rattle.depot_rows.specs.depot_model.Values.{value_of}
 use Rattle.depot_rows.proofs.Entries.{In}
 use Rattle.depot_rows.proofs.Keys.{same-is, same-self, number-self, left-true, right-true}
-use Rattle.sound_deeds.specs.Keeping.{FixKeeps, JobKeeps, FixesFit, HasNoFix, number_of_field}
-use Rattle.sound_deeds.proofs.Read.{spelled_reads, value_is}
+use Rattle.depot_facts.specs.Fields.{number_of_field}
+use Rattle.sound_deeds.specs.Keeping.{FixKeeps, JobKeeps, FixesFit, HasNoFix}
+use Rattle.depot_facts.proofs.Read.{spelled_reads, value_is}
 use Rattle.sound_deeds.proofs.Whole.{one_sound}
-use Rattle.sound_landing.proofs.Fields.{other_value, new_value, has_value, fix_state, fix_change, job_status}
-use Rattle.sound_landing.proofs.Fixing.{FixTells, IsFixOf, fix_in, spelled, fix_tells, numeral_is, numeral_digits, fixes_fit, fix_of, fixed}
-use Rattle.sound_deeds.proofs.Decimals.{number_decimal, numeral_decimal, value_digits, decimal_digits, parts_is}
+use Rattle.depot_facts.proofs.Fields.{other_value, own_value, has_value, state_spelled, change_spelled, status_spelled}
+use Rattle.depot_facts.proofs.Decimals.{numeral_is, numeral_digits, number_decimal, numeral_decimal, value_digits, decimal_digits, parts_is}
+use Rattle.depot_facts.proofs.Fixes.{FixTells, fix_in, fix_tells}
+use Rattle.depot_facts.proofs.Found.{spelled}
+use Rattle.sound_landing.proofs.Fixing.{IsFixOf, fixes_fit, fix_of, fixed}
 use Rattle.sound_landing.proofs.Ordered.{after_both}
 use Rattle.sound_landing.proofs.Whole.{AllForms}
-
-some-is : {A : Type 0} {x y : A} → Some x ≡ Some y → x ≡ y
-some-is e = cc
 
 -- a text of a list that isn't empty isn't empty
 first_of : (words : List (List ℕ)) (text : List ℕ) → IsOneOf words text → (P : List ℕ → Type 0) → ((w : List ℕ) → In words w → P w) → P text
@@ -113,7 +114,7 @@ module _ (d : List Deed) (sound : IsSound d) (n m : ℕ) (small : m ≤ 21474836
                 by g on (inl saved) = absurd (
                     let tells = fix_tells d sound (fix_name x k) g saved in
                     let parts = parts_is x (value_of g (codes "Job")) (decimal k) (value_of g (codes "Change")) (decimal_digits k)
-                    (numeral_digits d sound (value_of g (codes "Change")) tells.numeral) tells.named in
+                    (numeral_digits (value_of g (codes "Change")) tells.numeral) tells.named in
                     let number : number_of_field g (codes "Change") ≡ m = ap number_of (sym parts.1 ∙ is) ∙ number_m in
                     let most = tells.fits in
                     let up = above apart in
@@ -166,7 +167,7 @@ module _ (d : List Deed) (sound : IsSound d) (n m : ℕ) (small : m ≤ 21474836
       where
         go : (b : Bool) → same nm name ≡ b → option_or (when b g) (spec e FixForm name) ≡ Some x → (spec d FixForm name ≡ Some x) ⊎ IsNewName name
         go true h k =
-            let one : g ≡ x = some-is k in
+            let one : g ≡ x = same_Some _ _ k in
             inr (subst (λ (y : List ℕ). IsNewName y) (same-is nm name h) (new (ap is_on one ∙ on)))
         go false h k = way.names_are name x k on
 
@@ -175,7 +176,7 @@ module _ (d : List Deed) (sound : IsSound d) (n m : ℕ) (small : m ≤ 21474836
       where
         go : (b : Bool) → option_or (when b g) (spec e FixForm name) ≡ Some x → spec d FixForm name ≡ Some x
         go true k =
-            let one : g ≡ x = some-is k in
+            let one : g ≡ x = same_Some _ _ k in
             absurd (left apart (ap is_on one ∙ on) (ap (λ (y : FormValue). number_of_field y (codes "Change")) one ∙ number))
         go false k = way.left apart name x k on number
 
@@ -225,7 +226,7 @@ module _ (d : List Deed) (sound : IsSound d) (n m : ℕ) (small : m ≤ 21474836
     tells = fix_tells d sound of.name f of.saved
 
     f_spelled : IsSpelled FixForm f
-    f_spelled = spelled d sound of.name f of.saved
+    f_spelled = spelled d sound FixForm of.name f of.saved
 
     state_there : has_field (codes "State") f.fields ≡ true
     state_there = has_value (codes "State") f.fields 111 (110 ∷ []) (same-is (value_of f (codes "State")) (codes "on") of.on)
@@ -238,32 +239,32 @@ module _ (d : List Deed) (sound : IsSound d) (n m : ℕ) (small : m ≤ 21474836
     off = with_field (codes "State") (codes "off") f
 
     not_on : is_on (with_field (codes "State") (codes "off") f) ≡ false
-    not_on = ap (λ (t : List ℕ). same t (codes "on")) (new_value (codes "State") (codes "off") f state_there)
+    not_on = ap (λ (t : List ℕ). same t (codes "on")) (own_value (codes "State") (codes "off") f state_there)
 
     off_keeps : (e : List Deed) (done : List FormValue) → IsOnWay e done → FixKeeps e (fix_name (fixed_job f) n) (with_field (codes "State") (codes "off") f)
     off_keeps e done way = record {
       named = (λ i. sym job_same i ++ 0x20 ∷ sym change_same i);
       job = subst (λ (x : List ℕ). IsSome (job e x)) (sym job_same) (way.jobs (value_of f (codes "Job")) tells.job_there);
-      change_is = ap is_numeral (other_value (codes "State") (codes "off") (codes "Change") f refl) ∙ tells.numeral;
+      change_is = ap is_numeral (other_value (codes "State") (codes "off") f (codes "Change") refl) ∙ tells.numeral;
       change_fits =
-          let one : number_of_field (with_field (codes "State") (codes "off") f) (codes "Change") ≡ number_of_field f (codes "Change") = ap number_of (other_value (codes "State") (codes "off") (codes "Change") f refl) in
+          let one : number_of_field (with_field (codes "State") (codes "off") f) (codes "Change") ≡ number_of_field f (codes "Change") = ap number_of (other_value (codes "State") (codes "off") f (codes "Change") refl) in
           let low = tells.fits in
           let up = way.top_old in
           omega (arith, one, low, up);
-      state = subst (λ (x : List ℕ). IsOneOf (codes "on" ∷ codes "off" ∷ []) x) (sym (new_value (codes "State") (codes "off") f state_there)) refl;
+      state = subst (λ (x : List ℕ). IsOneOf (codes "on" ∷ codes "off" ∷ []) x) (sym (own_value (codes "State") (codes "off") f state_there)) refl;
     }
       where
         job_same : value_of (with_field (codes "State") (codes "off") f) (codes "Job") ≡ fixed_job f
-        job_same = other_value (codes "State") (codes "off") (codes "Job") f refl
+        job_same = other_value (codes "State") (codes "off") f (codes "Job") refl
 
         change_same : value_of (with_field (codes "State") (codes "off") f) (codes "Change") ≡ decimal n
-        change_same = other_value (codes "State") (codes "off") (codes "Change") f refl ∙ of.of_change
+        change_same = other_value (codes "State") (codes "off") f (codes "Change") refl ∙ of.of_change
 
     turned_off : (e : List Deed) (done : List FormValue) → IsOnWay e done → IsOnWay (Spec FixForm (fix_name (fixed_job f) n) (with_field (codes "State") (codes "off") f) ∷ e) (f ∷ done)
     turned_off e done way =
         marked (Spec FixForm (fix_name (fixed_job f) n) (with_field (codes "State") (codes "off") f) ∷ e) done f
         (fix_saved e done way (fix_name (fixed_job f) n) (with_field (codes "State") (codes "off") f)
-        (fix_state f (codes "off") f_spelled state_there refl) (off_keeps e done way) (λ on. absurd (no on)) (λ on. absurd (no on)) (λ apart on. absurd (no on)))
+        (state_spelled f (codes "off") f_spelled state_there refl) (off_keeps e done way) (λ on. absurd (no on)) (λ on. absurd (no on)) (λ apart on. absurd (no on)))
         (λ apart. by (same (fix_name (fixed_job f) n) (fix_name (fixed_job f) n)) (same-self (fix_name (fixed_job f) n)))
       where
         no : is_on (with_field (codes "State") (codes "off") f) ≡ true → ⊥
@@ -277,16 +278,16 @@ module _ (d : List Deed) (sound : IsSound d) (n m : ℕ) (small : m ≤ 21474836
     went_over : (n == m) ≡ false → (e : List Deed) (done : List FormValue) → IsOnWay e done → IsOnWay (Spec FixForm (fix_name (fixed_job f) m) (with_field (codes "Change") (decimal m) f) ∷ e) done
     went_over apart e done way =
         fix_saved e done way (fix_name (fixed_job f) m) (with_field (codes "Change") (decimal m) f)
-        (fix_change f (decimal m) f_spelled change_there (value_digits (decimal m) (decimal_digits m))) keeps (λ on. landed_there) (λ on. (apart, (f, (there, refl)))) (λ no on number. differs number)
+        (change_spelled f (decimal m) f_spelled change_there (value_digits (decimal m) (decimal_digits m))) keeps (λ on. landed_there) (λ on. (apart, (f, (there, refl)))) (λ no on number. differs number)
       where
         job_same : value_of (with_field (codes "Change") (decimal m) f) (codes "Job") ≡ fixed_job f
-        job_same = other_value (codes "Change") (decimal m) (codes "Job") f refl
+        job_same = other_value (codes "Change") (decimal m) f (codes "Job") refl
 
         state_same : value_of (with_field (codes "Change") (decimal m) f) (codes "State") ≡ value_of f (codes "State")
-        state_same = other_value (codes "Change") (decimal m) (codes "State") f refl
+        state_same = other_value (codes "Change") (decimal m) f (codes "State") refl
 
         change_is_m : value_of (with_field (codes "Change") (decimal m) f) (codes "Change") ≡ decimal m
-        change_is_m = new_value (codes "Change") (decimal m) f change_there
+        change_is_m = own_value (codes "Change") (decimal m) f change_there
 
         number_is_m : number_of_field (with_field (codes "Change") (decimal m) f) (codes "Change") ≡ m
         number_is_m = ap number_of change_is_m ∙ number_m
@@ -352,13 +353,13 @@ module _ (d : List Deed) (sound : IsSound d) (n m : ℕ) (small : m ≤ 21474836
 
     closed_keeps : JobKeeps nm (closed h)
     closed_keeps = record {
-      named = h_rule.named ∙ h_value (codes "Job") ∙ sym (other_value (codes "Status") (codes "closed") (codes "Job") h refl);
+      named = h_rule.named ∙ h_value (codes "Job") ∙ sym (other_value (codes "Status") (codes "closed") h (codes "Job") refl);
       digits = h_rule.digits;
-      status = subst (λ (x : List ℕ). IsOneOf (codes "open" ∷ codes "suspended" ∷ codes "closed" ∷ []) x) (sym (new_value (codes "Status") (codes "closed") h status_there)) refl;
+      status = subst (λ (x : List ℕ). IsOneOf (codes "open" ∷ codes "suspended" ∷ codes "closed" ∷ []) x) (sym (own_value (codes "Status") (codes "closed") h status_there)) refl;
     }
 
     job_closed : (e : List Deed) (done : List FormValue) → IsOnWay e done → IsOnWay (Spec JobForm nm (closed h) ∷ e) done
-    job_closed e done way = job_saved e done way nm (closed h) (job_status h (codes "closed") h_spelled status_there refl) closed_keeps
+    job_closed e done way = job_saved e done way nm (closed h) (status_spelled h (codes "closed") h_spelled status_there refl) closed_keeps
 
   closes_on_way : (nm : List ℕ) (e : List Deed) (done : List FormValue) → IsOnWay e done → IsOnWay (after e (closes d nm)) done
   closes_on_way nm e done way = go (job d nm) refl
@@ -417,7 +418,7 @@ module _ (d : List Deed) (sound : IsSound d) (n m : ℕ) (small : m ≤ 21474836
           found g f on number =
               let saved = (all.way).left apart name g f on number in
               let tells = fix_tells d sound name g saved in
-              let change : value_of g (codes "Change") ≡ decimal n = numeral_is d sound (value_of g (codes "Change")) tells.numeral ∙ ap decimal number in
+              let change : value_of g (codes "Change") ≡ decimal n = numeral_is (value_of g (codes "Change")) tells.numeral ∙ ap decimal number in
               let of_change = ap (λ (t : List ℕ). same t (decimal n)) change ∙ same-self (decimal n) in
               let there = fix_in d n name g saved on of_change in
               let name_is : name ≡ fix_name (fixed_job g) n = tells.named ∙ ap (λ (t : List ℕ). fixed_job g ++ 0x20 ∷ t) change in

@@ -1,11 +1,9 @@
 pub mod Grown
-pub mod Listed
 pub mod NewRevisions
 pub mod NewPairs
 pub mod Landed
 pub mod Turned
 pub mod Ordered
-pub mod OpenFiles
 pub mod Entering
 pub mod Shutting
 pub mod Shelved
@@ -13,7 +11,6 @@ pub mod Leaving
 pub mod Submitted
 pub mod Refusing
 pub mod Whole
-pub mod Fields
 pub mod Fixing
 pub mod Following
 pub mod Kept

@@ -14,7 +14,7 @@ use Rattle.depot_rows.specs.depot_model.declared.command.Command.TheVariants.{Su
 use Rattle.depot_rows.specs.depot_model.declared.request.Request.{Request}
 use Rattle.depot_rows.specs.depot_model.declared.request.WordFault.{WordFault}
 use Rattle.depot_rows.proofs.Keys.{left-true, right-true}
-use Rattle.sound_file_steps.proofs.Steps.{both_all}
+use Rattle.depot_facts.proofs.Steps.{both_all}
 use Rattle.sound_landing.proofs.Kept.{submit_default_sound, submit_change_sound}
 use Rattle.sound_form_steps.specs.Contents.{fits_content, is_short, is_of_bytes}
 use Rattle.sound_requests.specs.Asked.{IsAsked, are_named, is_covered, is_named, is_typed, names_what}

@@ -36,7 +36,7 @@ use Rattle.sound_file_steps.proofs.Reading.{where_sound, have_sound, opened_soun
 use Rattle.sound_file_steps.proofs.Resolving.{resolve_sound}
 use Rattle.sound_form_steps.proofs.Saves.{group_sound, client_sound, label_sound}
 use Rattle.sound_form_steps.proofs.Shelving.{unshelve_sound}
-use Rattle.sound_file_steps.proofs.Steps.{NoneOf, not_refused, unless_sound}
+use Rattle.depot_facts.proofs.Steps.{NoneOf, not_refused, unless_sound}
 use Rattle.sound_file_steps.proofs.Tagging.{tag_sound, labelsync_sound}
 use Rattle.sound_form_steps.proofs.Unshelving.{shelve_delete_sound}
 use Rattle.sound_form_steps.proofs.Words.{protect_sound}

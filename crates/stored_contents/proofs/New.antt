@@ -31,8 +31,9 @@ use Rattle.depot_rows.specs.Effects.{effects, effect, entry_path, or_before, rev
 use Rattle.depot_rows.specs.Standing.{HasRows, row_in}
 use Rattle.depot_rows.proofs.Entries.{In, path_in, of_path, paths-same, once, at_most_once}
 use Rattle.depot_rows.proofs.Keys.{same-is, same-self, number-self, left-true, right-true}
-use Rattle.sound_landing.proofs.Listed.{in_filter, in_map, get_in, get_left, get_either, IsBehind}
-use Rattle.sound_landing.proofs.NewRevisions.{at_read, shown}
+use Rattle.depot_facts.proofs.Listed.{in_filter, in_map, get_in, get_left, get_either, IsBehind}
+use Rattle.depot_facts.proofs.PathTexts.{at_read}
+use Rattle.depot_facts.proofs.Revisions.{shown}
 use Rattle.step_stores.specs.Stored.{IsPlaced, ArePlaced, LandNothing, NothingLands}
 use Rattle.stored_contents.specs.Placed.{HasNoneIfDeleted, HasSpot, IsPlacedAt, no_spot, spot_of}
 

@@ -17,7 +17,7 @@ use Rattle.depot_rows.specs.depot_model.Rules.{IsSound, HasRev}
 use Rattle.depot_rows.specs.depot_model.Steps.Submitting.{content_at}
 use Rattle.depot_rows.specs.Standing.{HasRows, row_in}
 use Rattle.depot_rows.proofs.Spelled.{at_path-here}
-use Rattle.depots_alike.proofs.Nowhere.{no_revisions}
+use Rattle.depot_facts.proofs.Nowhere.{no_revisions}
 use Rattle.row_changes.specs.Differences.{AreDifferences, LeadsTo, change_at}
 use Rattle.row_changes.proofs.Kept.{stored-after, row_after}
 use Rattle.stored_contents.specs.Placed.{IsPlacedAt, spot_of}

@@ -21,7 +21,8 @@ use Rattle.depot_rows.specs.declared.deed.How.TheVariants as hows
 use Rattle.depot_rows.specs.declared.deed.Credit.{Credit as CreditSaid}
 use Rattle.depot_rows.proofs.Entries.{In}
 use Rattle.depot_rows.proofs.Keys.{same-is, same-self, same-not}
-use Rattle.sound_landing.proofs.OpenFiles.{in_filter_map, owed_is, opened_path}
+use Rattle.depot_facts.proofs.Listed.{in_filter_map}
+use Rattle.depot_facts.proofs.OpenFiles.{owed_is, opened_path}
 use Rattle.opening_reads.specs.Read.{path_in_text}
 use Rattle.submit_core.specs.Owed.{how_in, credit_by, credit_of_row}
 

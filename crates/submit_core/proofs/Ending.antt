@@ -8,17 +8,17 @@ use Rattle.depot_rows.specs.depot_model.Opened.{opened}
 use Rattle.depot_rows.specs.depot_model.Revisions.{head, is_live_action}
 use Rattle.depot_rows.specs.depot_model.Rows.{row, path_field, number_field, text_field, action_word}
 use Rattle.depot_rows.specs.depot_model.Steps.Submitting.{dropped, entry_of, file_row, got_and_shut, landing_number, new_have, openings_of}
-use Rattle.depot_rows.specs.Deed.{AreEntries, action_of, deed_of, opening_of}
+use Rattle.depot_rows.specs.Deed.{AreEntries, action_of, opening_of}
 use Rattle.depot_rows.specs.declared.deed.Opening.{Opening as CodeOpening}
 use Rattle.depot_rows.proofs.Entries.{In}
 use Rattle.depot_rows.proofs.Locks.{opened-is}
-use Rattle.sound_landing.proofs.OpenFiles.{opening_in}
+use Rattle.depot_facts.proofs.OpenFiles.{opening_in}
 use Rattle.submit_core.specs.Premises.{AreOpened}
 use Rattle.depot_rows.specs.depot_model.declared.request.Caller.{Caller}
 use Rattle.depot_rows.specs.declared.deed.Deed.{Deed as Done}
 use Rattle.depot_rows.specs.declared.deed.Deed.TheVariants as dones
 use Rattle.depot_rows.specs.declared.deed.Entry.{Entry}
-use Rattle.sound_landing.specs.Following.{AreTold}
+use Rattle.depot_facts.specs.Following.{AreTold}
 use Rattle.submit_core.specs.Landing.{dropped_by, ends_of, had_then, row_of_entry}
 use Rattle.job_fixes.specs.Telling.{Tells}
 use Rattle.job_fixes.proofs.Telling.{told_on}

@@ -27,7 +27,7 @@ use Rattle.reply_rows.specs.Made.{ComeFrom, told}
 use Rattle.reply_rows.specs.declared.step.Step.{Step}
 use Rattle.reply_rows.proofs.Bare.{AreBare, none_told, rows_wait}
 use Rattle.reply_rows.proofs.Joined.{made_refusal}
-use Rattle.sound_landing.specs.Following.{AreTold}
+use Rattle.depot_facts.specs.Following.{AreTold}
 use Rattle.sound_landing.specs.Submits.{MaySubmit}
 use Rattle.sound_landing.proofs.Follows.{submit_follows}
 use Rattle.step_stores.specs.Stored.{ArePlaced, AreStored, IsStoring, NothingLands}

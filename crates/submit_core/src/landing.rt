@@ -9,7 +9,7 @@ ghost use Rattle.depot_rows.specs.depot_model.Rules.{IsSound};
 ghost use Rattle.depot_rows.specs.Deed.{action_of};
 ghost use Rattle.depot_rows.specs.Standing.{HasRows};
 ghost use Rattle.depot_rows.specs.declared.deed.Deed.TheVariants as dones;
-ghost use Rattle.sound_landing.specs.Following.{AreTold};
+ghost use Rattle.depot_facts.specs.Following.{AreTold};
 ghost use Rattle.submit_core.specs.Landing.{dropped_by, ends_of, had_then, row_of_entry};
 ghost use Rattle.depot_rows.specs.table_changes.Changed.{rows_of};
 

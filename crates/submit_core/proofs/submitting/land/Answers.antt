@@ -8,7 +8,7 @@ use Rattle.depot_rows.specs.depot_model.Steps.Submitting.{dropped, entry_of, got
 use Rattle.depot_rows.specs.Deed.{AreEntries, IsLanding}
 use Rattle.depot_rows.specs.declared.deed.Entry.{Entry}
 use Rattle.depot_rows.specs.declared.deed.Landing.{Landing}
-use Rattle.sound_landing.specs.Following.{AreTold}
+use Rattle.depot_facts.specs.Following.{AreTold}
 use Rattle.step_stores.specs.Stored.{ArePlaced}
 use Rattle.submit_core.specs.Entries.{AreFiles}
 use Rattle.submit_core.specs.Landing.{ends_of, row_of_entry}

@@ -12,10 +12,8 @@ use Rattle.depot_rows.proofs.spec_form.Utf8.{ascii-cons}
 use Rattle.depot_rows.specs.spec_form.Form.{is_value}
 use Rattle.depot_rows.specs.spec_form.Texts.{trimmed_start, is_blank}
 use Rattle.depot_rows.specs.depot_model.Numerals.{is_numeral}
-use Rattle.depot_rows.proofs.Keys.{same-self, left-true, right-true, number-is}
-
-both : (a b : Bool) → a ≡ true → b ≡ true → (a && b) ≡ true
-both a b e f = λ i. e i && f i
+use Rattle.depot_rows.proofs.Keys.{same-is, same-self, left-true, right-true, number-is}
+use Rattle.depot_facts.proofs.Tests.{both_true}
 
 -- ---- digits that write a number
 
@@ -28,11 +26,11 @@ a_digit : (n : ℕ) → n < 10 → is_digit (48 + n) ≡ true
 a_digit n h = grind (arith, nat_tests)
 
 one : (n : ℕ) → n < 10 → Writes n ((48 + n) ∷ [])
-one n h = record { some = refl; digits = both (is_digit (48 + n)) true (a_digit n h) refl; number = omega arith }
+one n h = record { some = refl; digits = both_true (is_digit (48 + n)) true (a_digit n h) refl; number = omega arith }
 
 snoc_all : (ds : List ℕ) (x : ℕ) → list_all is_digit ds ≡ true → is_digit x ≡ true → list_all is_digit (ds ++ x ∷ []) ≡ true
-snoc_all [] x e f = both (is_digit x) true f refl
-snoc_all (d ∷ ds) x e f = both (is_digit d) (list_all is_digit (ds ++ x ∷ [])) (left-true (is_digit d) (list_all is_digit ds) e)
+snoc_all [] x e f = both_true (is_digit x) true f refl
+snoc_all (d ∷ ds) x e f = both_true (is_digit d) (list_all is_digit (ds ++ x ∷ [])) (left-true (is_digit d) (list_all is_digit ds) e)
     (snoc_all ds x (right-true (is_digit d) (list_all is_digit ds) e) f)
 
 snoc_fold : (a : ℕ) (ds : List ℕ) (x : ℕ)
@@ -63,7 +61,7 @@ written n small = decimal_by_steps Writes one more n small
 pub numeral_decimal : (n : ℕ) → n < 2 ^ 64 → is_numeral (decimal n) ≡ true
 numeral_decimal n small =
     let w = written n small in
-    both (is_digits (decimal n)) (same (decimal (number_of (decimal n))) (decimal n)) (both _ _ w.some w.digits)
+    both_true (is_digits (decimal n)) (same (decimal (number_of (decimal n))) (decimal n)) (both_true _ _ w.some w.digits)
     (ap (λ (m : ℕ). same (decimal m) (decimal n)) w.number ∙ same-self (decimal n))
 
 pub number_decimal : (n : ℕ) → n < 2 ^ 64 → number_of (decimal n) ≡ n
@@ -79,7 +77,7 @@ onto_digits zero n acc e = e
 onto_digits (suc k) n acc e = go (n / 10 == 0) (onto_digits k (n / 10) (digit_glyph false (n % 10) ∷ acc) here)
   where
     here : list_all is_digit (digit_glyph false (n % 10) ∷ acc) ≡ true
-    here = both (is_digit (digit_glyph false (n % 10))) (list_all is_digit acc) (glyph_is (n % 10) (omega arith)) e
+    here = both_true (is_digit (digit_glyph false (n % 10))) (list_all is_digit acc) (glyph_is (n % 10) (omega arith)) e
 
     go : (b : Bool) → list_all is_digit (digits_onto k 10 false (n / 10) (digit_glyph false (n % 10) ∷ acc)) ≡ true
         → list_all is_digit (if b then digit_glyph false (n % 10) ∷ acc else digits_onto k 10 false (n / 10) (digit_glyph false (n % 10) ∷ acc)) ≡ true
@@ -122,7 +120,7 @@ digits_trimmed (d ∷ ds) all = go (is_blank d) (no_blank d (left-true (is_digit
 pub value_digits : (ds : List ℕ) → list_all is_digit ds ≡ true → is_value ds ≡ true
 value_digits ds all =
     let three : same (trimmed_start ds) ds ≡ true = ap (λ (t : List ℕ). same t ds) (digits_trimmed ds all) ∙ same-self ds in
-    both _ _ (both (is_utf8 ds) _ (digits_utf8 ds all) (ap not (digits_without 0x0A refl ds all))) three
+    both_true _ _ (both_true (is_utf8 ds) _ (digits_utf8 ds all) (ap not (digits_without 0x0A refl ds all))) three
 
 -- ---- names that end with a blank and digits
 
@@ -141,3 +139,26 @@ parts_is (x ∷ xs) (y ∷ ys) ds es p q e =
     let tail : xs ++ 0x20 ∷ ds ≡ ys ++ 0x20 ∷ es = cc in
     let rest = parts_is xs ys ds es p q tail in
     ((λ i. head_is i ∷ rest.0 i), rest.1)
+
+-- digits before a space part a text one way
+pub parts_are : (xs ys a b : List ℕ) → list_all is_digit xs ≡ true → list_all is_digit ys ≡ true → xs ++ 0x20 ∷ a ≡ ys ++ 0x20 ∷ b → (xs ≡ ys) × (a ≡ b)
+parts_are [] [] a b p q e = (refl, cc)
+parts_are [] (y ∷ ys) a b p q e =
+    let one : 0x20 ≡ y = cc in
+    absurd (let no : true ≡ false = sym (left-true (is_digit y) (list_all is_digit ys) q) ∙ ap is_digit (sym one) in cc)
+parts_are (x ∷ xs) [] a b p q e =
+    let one : x ≡ 0x20 = cc in
+    absurd (let no : true ≡ false = sym (left-true (is_digit x) (list_all is_digit xs) p) ∙ ap is_digit one in cc)
+parts_are (x ∷ xs) (y ∷ ys) a b p q e =
+    let one : x ≡ y = cc in
+    let more : xs ++ 0x20 ∷ a ≡ ys ++ 0x20 ∷ b = cc in
+    let rest = parts_are xs ys a b (right-true (is_digit x) (list_all is_digit xs) p) (right-true (is_digit y) (list_all is_digit ys) q) more in
+    ((λ i. one i ∷ rest.0 i), rest.1)
+
+-- ---- numerals
+
+pub numeral_is : (text : List ℕ) → is_numeral text ≡ true → text ≡ decimal (number_of text)
+numeral_is text e = sym (same-is (decimal (number_of text)) text (right-true (is_digits text) _ e))
+
+pub numeral_digits : (text : List ℕ) → is_numeral text ≡ true → list_all is_digit text ≡ true
+numeral_digits text e = right-true (nat_le 1 (length text)) (list_all is_digit text) (left-true (is_digits text) _ e)

@@ -1,20 +1,27 @@
--- Types and contents as values of forms.
-use Rattle.std.proofs.Common.{◌≡◌, ◌<◌, ◌/◌, ◌%◌, ℕ, zero, suc, Bool, true, false, List, [], ◌∷◌, ◌++◌, length, Ok, Err, refl, sym, ap, subst, ◌∙◌, arith}
-use Rattle.std.specs.Prelude.{◌&&◌, ◌||◌, ◌==◌, not, codes, filter, nat_lt, nat_le, slice_index, if◌then◌else◌}
-use Rattle.std.specs.List.{list_all}
+-- Paths, numbers, types and contents as values of forms.
+use Rattle.std.proofs.Common.{◌≡◌, ◌<◌, ◌/◌, ◌%◌, ℕ, zero, suc, Bool, true, false, List, [], ◌∷◌, ◌++◌, length, Option, Some, None, Ok, Err, refl, sym, ap, subst, ◌∙◌, arith}
+use Rattle.std.specs.Prelude.{◌&&◌, ◌||◌, ◌==◌, not, codes, decimal, filter, nat_lt, nat_le, slice_index, if◌then◌else◌}
+use Rattle.std.specs.List.{list_all, list_any}
+use Rattle.std.proofs.lemmas.Bool.{not-true}
 use Rattle.std.proofs.lemmas.Bool.Decides.{nat_tests}
 use Rattle.hex.proofs.HexLemmas.{decode_of-encode_lower}
 use Rattle.hex.specs.Hex.{IsBytes, encode_lower, encode_with, lower_digits}
-use Rattle.depot_rows.specs.depot_path.Bytes.{same, is_among}
+use Rattle.depot_rows.specs.depot_path.Bytes.{same, is_among, is_control}
 use Rattle.depot_rows.specs.depot_path.Name.{is_name}
+use Rattle.depot_rows.specs.depot_path.Path.{path_fault, first_fault, printed, unescaped, unless, is_path, is_text, begins_with_slashes, has_empty_component, has_bad_escape, has_dot_component, has_three_dots, components}
 use Rattle.depot_rows.specs.depot_path.Utf8.{is_utf8}
+use Rattle.depot_rows.specs.depot_path.declared.fault.PathFault.{PathFault}
+use Rattle.depot_rows.specs.depot_path.declared.fault.PathFault.TheVariants.{NoSlashes, EmptyPart, BadEscape, BadByte, TooLong, Dots}
+use Rattle.depot_rows.proofs.depot_path.Paths.{prints_path}
 use Rattle.depot_rows.proofs.spec_form.Good.{GoodValue}
 use Rattle.depot_rows.proofs.spec_form.Utf8.{ascii-cons}
 use Rattle.depot_rows.specs.spec_form.Form.{value_lines}
+use Rattle.depot_rows.specs.spec_form.Texts.{trimmed_start, is_blank}
 use Rattle.depot_rows.specs.depot_model.Rules.{is_content_text}
 use Rattle.depot_rows.specs.depot_model.Types.{base_type, modifiers, is_base, are_modifiers, is_type, printed_type, is_printed_type}
-use Rattle.depot_rows.proofs.Keys.{same-is, same-self, left-true, right-true}
-use Rattle.sound_file_steps.proofs.Known.{both_true}
+use Rattle.depot_rows.proofs.Keys.{same-is, same-self, left-true, right-true, number-is}
+use Rattle.depot_facts.proofs.Decimals.{decimal_digits, digits_without, digits_utf8, digits_trimmed}
+use Rattle.depot_facts.proofs.Tests.{either_false, not_false, both_true}
 
 -- ---- types
 
@@ -137,3 +144,75 @@ pub content_is : (block : List ℕ) → IsBytes block → nat_le (length block) 
 content_is block bytes small =
     ap (λ r. elim r [ Err fault ↦ false | Ok x ↦ same (encode_lower x) (encode_lower block) && nat_le (length x) 8388608 ]) (decode_of-encode_lower block bytes)
     ∙ both_true (same (encode_lower block) (encode_lower block)) (nat_le (length block) 8388608) (same-self (encode_lower block)) small
+
+-- ---- paths and numbers
+
+no_control : (c : ℕ) → is_control c ≡ true → (text : List ℕ) → list_any is_control text ≡ false → is_among text c ≡ false
+no_control c h [] e = refl
+no_control c h (b ∷ text) e = go (b == c) refl (either_false (is_control b) (list_any is_control text) e) (no_control c h text)
+  where
+    go : (r : Bool) → (b == c) ≡ r → (is_control b ≡ false) × (list_any is_control text ≡ false) → (list_any is_control text ≡ false → is_among text c ≡ false)
+        → (r || is_among text c) ≡ false
+    go true k both later = absurd (let f : is_control b ≡ true = ap is_control (number-is b c k) ∙ h in let g = both.0 in cc)
+    go false k both later = later both.1
+
+-- what the text of a path is
+record IsPathText (text : List ℕ) : Type 0 where
+  slashes : begins_with_slashes text ≡ true
+  plain : is_text text ≡ true
+
+no_fault : (a b c e f g : Bool)
+    → first_fault ((a, TooLong) ∷ (b, NoSlashes) ∷ (c, EmptyPart) ∷ (e, BadEscape) ∷ (f, BadByte) ∷ (g, Dots) ∷ []) ≡ None → (b ≡ false) × (f ≡ false)
+no_fault true b c e f g h = absurd cc
+no_fault false true c e f g h = absurd cc
+no_fault false false true e f g h = absurd cc
+no_fault false false false true f g h = absurd cc
+no_fault false false false false true g h = absurd cc
+no_fault false false false false false g h = (refl, refl)
+
+path_text_is : (path : List ℕ) → is_path path ≡ true → IsPathText (printed path)
+path_text_is path is = go (path_fault (printed path)) refl (prints_path path is)
+  where
+    go : (o : Option PathFault) → path_fault (printed path) ≡ o → unless o (unescaped 0 (printed path)) ≡ Ok path → IsPathText (printed path)
+    go (Some fault) e h = absurd cc
+    go None e h =
+        let free = no_fault (nat_lt 1024 (length (printed path))) (not (begins_with_slashes (printed path)))
+        (nat_lt (length (components (printed path))) 2 || has_empty_component (printed path)) (has_bad_escape (printed path))
+        (list_any (is_among (codes "@#*")) (printed path) || not (is_text (printed path))) (has_dot_component (printed path) || has_three_dots (printed path)) e in
+        record {
+          slashes = not_false (begins_with_slashes (printed path)) free.0;
+          plain = not_false (is_text (printed path)) (either_false (list_any (is_among (codes "@#*")) (printed path)) (not (is_text (printed path))) free.1).1;
+        }
+
+start_stays : (text : List ℕ) → begins_with_slashes text ≡ true → trimmed_start text ≡ text
+start_stays [] e = refl
+start_stays (b ∷ text) e = go (is_blank b) refl
+  where
+    go : (r : Bool) → is_blank b ≡ r → (if r then trimmed_start text else b ∷ text) ≡ b ∷ text
+    go true h = absurd (let first : b ≡ 0x2F = begins b text e in let f : is_blank b ≡ false = ap is_blank first in cc)
+      where
+        begins : (x : ℕ) (more : List ℕ) → begins_with_slashes (x ∷ more) ≡ true → x ≡ 0x2F
+        begins x [] k = absurd (let f : codes "//" ≡ x ∷ [] = same-is (codes "//") (x ∷ []) k in cc)
+        begins x (y ∷ more) k = let f : codes "//" ≡ x ∷ y ∷ [] = same-is (codes "//") (x ∷ y ∷ []) k in cc
+    go false h = refl
+
+pub good_path : (path : List ℕ) → is_path path ≡ true → GoodValue (value_lines (printed path))
+good_path path is =
+    let text = path_text_is path is in
+    record {
+      value = printed path;
+      is = refl;
+      clean = record {
+        one = no_control 0x0A refl (printed path) (not-true (list_any is_control (printed path)) (right-true (is_utf8 (printed path)) (not (list_any is_control (printed path))) text.plain));
+        utf8 = left-true (is_utf8 (printed path)) (not (list_any is_control (printed path))) text.plain;
+      };
+      trimmed = start_stays (printed path) text.slashes;
+    }
+
+pub good_decimal : (n : ℕ) → GoodValue (value_lines (decimal n))
+good_decimal n = record {
+  value = decimal n;
+  is = refl;
+  clean = record { one = digits_without 0x0A refl (decimal n) (decimal_digits n); utf8 = digits_utf8 (decimal n) (decimal_digits n) };
+  trimmed = digits_trimmed (decimal n) (decimal_digits n);
+}

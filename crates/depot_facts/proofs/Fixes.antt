@@ -1,0 +1,74 @@
+-- The fixes of a change, and what a saved fix of a sound depot says.
+use Rattle.std.proofs.Common.{◌≡◌, ◌≤◌, ℕ, Bool, true, false, List, [], ◌∷◌, ◌++◌, Option, Some, None, refl, sym, ap, subst, ◌∙◌, arith}
+use Rattle.std.specs.Prelude.{◌&&◌, nat_le, IsSome, is_some, option_map, codes}
+use Rattle.std.specs.List.{filter_map}
+use Rattle.std.proofs.lemmas.Bool.Decides.{nat_tests}
+use Rattle.depot_rows.specs.depot_path.Digits.{number_of}
+use Rattle.depot_rows.specs.db_records.declared.record.Record.TheVariants as records
+use Rattle.depot_rows.specs.spec_form.Form.{FormValue}
+use Rattle.depot_rows.specs.spec_form.Printing.{printed_form}
+use Rattle.depot_rows.specs.spec_form.declared.shape.Shape.TheVariants.{Fix as FixShape}
+use Rattle.depot_rows.specs.depot_model.Deeds.{Deed, JobForm, FixForm}
+use Rattle.depot_rows.specs.depot_model.Fixes.{job, is_on, fixes_on, fixes_of}
+use Rattle.depot_rows.specs.depot_model.Latest.{keys_of, spec, spec_said, spec_name}
+use Rattle.depot_rows.specs.depot_model.Numbers.{top}
+use Rattle.depot_rows.specs.depot_model.Numerals.{is_numeral}
+use Rattle.depot_rows.specs.depot_model.Records.{record_of}
+use Rattle.depot_rows.specs.depot_model.Rules.{IsSound, IsFix, IsOneOf, value_in, top_in}
+use Rattle.depot_rows.specs.depot_model.Shelves.{is_of_change}
+use Rattle.depot_rows.specs.depot_model.Values.{value_of}
+use Rattle.depot_rows.proofs.ChangeCounter.{top_value}
+use Rattle.depot_rows.proofs.Entries.{In}
+use Rattle.depot_rows.proofs.Keys.{left-true, right-true}
+use Rattle.depot_facts.specs.Fields.{number_of_field}
+use Rattle.depot_facts.proofs.Found.{saved_fix, spec_names, spec_value}
+use Rattle.depot_facts.proofs.Listed.{filter_in, filter_map_in}
+use Rattle.depot_facts.proofs.Members.{key_in}
+use Rattle.depot_facts.proofs.Tests.{le_true}
+
+pub fix_in : (d : List Deed) (n : ℕ) (name : List ℕ) (form : FormValue) → spec d FixForm name ≡ Some form → is_on form ≡ true → is_of_change n form ≡ true → In (fixes_of d n) form
+fix_in d n name form e on of_change =
+    filter_in (is_of_change n) (fixes_on d) form
+    (filter_in is_on (filter_map (spec d FixForm) (keys_of (spec_name FixForm) d)) form
+    (filter_map_in (spec d FixForm) (keys_of (spec_name FixForm) d) name form (key_in (spec_said FixForm name) (spec_name FixForm) name form (spec_names FixForm name form) d e) e) on) of_change
+
+-- ---- a fix of a sound depot
+
+module _ (d : List Deed) (sound : IsSound d) where
+  -- a fix as its form tells it
+  pub record FixTells (name : List ℕ) (form : FormValue) : Type 0 where
+    pub named : name ≡ value_of form (codes "Job") ++ 0x20 ∷ value_of form (codes "Change")
+    pub job_there : IsSome (job d (value_of form (codes "Job")))
+    pub numeral : is_numeral (value_of form (codes "Change")) ≡ true
+    pub fits : number_of_field form (codes "Change") ≤ top d
+    pub state : IsOneOf (codes "on" ∷ codes "off" ∷ []) (value_of form (codes "State"))
+
+  pub fix_tells : (name : List ℕ) (form : FormValue) → spec d FixForm name ≡ Some form → FixTells name form
+  fix_tells name form e = record {
+    named = rule.named ∙ (λ i. v (codes "Job") i ++ 0x20 ∷ v (codes "Change") i);
+    job_there = subst (λ (x : List ℕ). IsSome (job d x)) (v (codes "Job")) (saved (spec d JobForm (value_in FixShape (codes "Job") (printed_form form))) rule.job);
+    numeral = ap is_numeral (sym (v (codes "Change"))) ∙ left-true (is_numeral change) (nat_le (number_of change) (top_in (record_of d))) rule.change;
+    fits = fits;
+    state = subst (λ (x : List ℕ). IsOneOf (codes "on" ∷ codes "off" ∷ []) x) (v (codes "State")) rule.state;
+  }
+    where
+      rule : IsFix (record_of d) name (printed_form form)
+      rule = saved_fix d sound name form e
+
+      v : (field : List ℕ) → value_in FixShape field (printed_form form) ≡ value_of form field
+      v = spec_value d sound FixForm name form e
+
+      change : List ℕ
+      change = value_in FixShape (codes "Change") (printed_form form)
+
+      saved : (o : Option FormValue) → is_some (option_map (λ (t : List ℕ). records.Domain (record { kind = codes "job"; name = value_in FixShape (codes "Job") (printed_form form); form = t })) (option_map printed_form o)) ≡ true
+          → is_some o ≡ true
+      saved None h = h
+      saved (Some x) h = refl
+
+      fits : number_of_field form (codes "Change") ≤ top d
+      fits =
+          let low = le_true (number_of change) (top_in (record_of d)) (right-true (is_numeral change) (nat_le (number_of change) (top_in (record_of d))) rule.change) in
+          let value : top_in (record_of d) ≡ top d = top_value d in
+          let one : number_of change ≡ number_of_field form (codes "Change") = ap number_of (v (codes "Change")) in
+          omega (arith, low, value, one)
