@@ -10,7 +10,7 @@ use Rattle.depot_rows.specs.depot_model.Step.{Step as ModelStep, unless, refuses
 use Rattle.reply_rows.specs.declared.step.Step.{Step}
 use Rattle.reply_rows.specs.Made.{told}
 use Rattle.step_stores.specs.Stored.{IsStoring}
-use Rattle.command_core.specs.Refusing.{first_of}
+use Rattle.reply_rows.specs.Refusing.{first_of}
 use Rattle.command_core.proofs.Storing.{refuses_storing}
 
 -- the step of the first refusal, where there is one

@@ -9,7 +9,7 @@ use Rattle.depot_rows.specs.depot_model.declared.reply.Row.{Row}
 use Rattle.depot_rows.specs.depot_model.Common.{first_unknown}
 use Rattle.depot_rows.specs.depot_model.Refusals.{refusal_row}
 use Rattle.depot_rows.specs.depot_model.Step.{refuse_if}
-use Rattle.command_core.specs.Refusing.{first_of}
+use Rattle.reply_rows.specs.Refusing.{first_of}
 
 -- where the caller has the right and its client is there, an unknown name is the first
 pub first_is : (may lacks : Bool) (denied none : Refusal) (unknown : Option Refusal) → may ≡ true → lacks ≡ false

@@ -16,7 +16,7 @@ ghost use Rattle.reply_rows.specs.Made.{IsMade};
 ghost use Rattle.step_stores.specs.Stored.{IsStoring};
 ghost use Rattle.stored_contents.specs.Placed.{StandAfter};
 ghost use Rattle.command_core.specs.Families.{is_job as is_of_job, is_server as is_of_server, is_spec as is_of_spec, is_submit as submits};
-ghost use Rattle.command_core.specs.Refusing.{first_of};
+ghost use Rattle.reply_rows.specs.Refusing.{first_of};
 ghost use Rattle.command_core.specs.Outcomes.{HasNeeded, HasTouched, IsFormed, IsFormedBy, IsOutcome, IsStep};
 
 use crate::about::{

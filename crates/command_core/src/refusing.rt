@@ -18,7 +18,7 @@ ghost use Rattle.depot_rows.specs.depot_model.Shelves.{is_shelved as is_shelved_
 ghost use Rattle.depot_rows.specs.depot_model.Step.{refuse_if};
 ghost use Rattle.depot_rows.specs.depot_model.declared.refusal.Refusal.TheVariants as refusals;
 ghost use Rattle.depot_rows.specs.Standing.{HasRows};
-ghost use Rattle.command_core.specs.Refusing.{first_of};
+ghost use Rattle.reply_rows.specs.Refusing.{first_of};
 
 use crate::about::{files_of, need_of, needs_client, patterns_of};
 use depot_rows::model::{Caller, Command, FileArgument, PatternArgument, Row, WordFault};

@@ -10,7 +10,7 @@ ghost use Rattle.named_files.specs.Asked.{IsAsker};
 ghost use Rattle.step_stores.specs.Stored.{IsStoring};
 ghost use Rattle.command_core.specs.Families.{is_submit};
 ghost use Rattle.command_core.specs.Outcomes.{HasTouched};
-ghost use Rattle.command_core.specs.Refusing.{first_of};
+ghost use Rattle.reply_rows.specs.Refusing.{first_of};
 
 use depot_rows::model::{Command, Request};
 use depot_rows::tables::Tables;

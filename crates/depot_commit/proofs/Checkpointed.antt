@@ -31,10 +31,10 @@ use Rattle.row_changes.specs.Differences.{AreDifferences, LeadsTo, change_at, ch
 use Rattle.row_texts.proofs.Changes.{own_change}
 use Rattle.depot_commit.proofs.Differences.{all_differ, no_changes}
 use Rattle.depot_commit.proofs.Laws.{only_checkpoint, told_is_counted}
-use Rattle.depot_commit.specs.Holding.{generation_in}
 use Rattle.depot_commit.specs.Opening.{opens, opens_generation}
 use Rattle.step_limits.proofs.Whole.{step_from}
 use Rattle.depot_rows.specs.table_changes.Changed.{AllRows, changed_by, changed_in}
+use Rattle.step_limits.specs.Limits.{generation_in}
 
 -- ---- its deed
 

@@ -19,8 +19,9 @@ use Rattle.recovery.specs.Standing.{HasContent, HasContents}
 use Rattle.reply_rows.specs.Made.{ComeFrom, ComesFrom}
 use Rattle.reply_rows.specs.declared.content.RowContent.{RowContent}
 use Rattle.reply_rows.specs.declared.content.RowContent.TheVariants.{At, Given}
-use Rattle.depot_commit.specs.Holding.{SameContents, HasItsContents}
+use Rattle.depot_commit.specs.Holding.{HasItsContents}
 use Rattle.depot_commit.specs.Storing.{AreAt, IsAt}
+use Rattle.depot_facts.specs.Contents.{SameContents}
 
 abbrev pub content_of : Option Revision → Option (List ℕ)
 content_of found = option_and_then (λ (r : Revision). r.entry.content) found

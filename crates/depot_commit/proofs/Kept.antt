@@ -13,7 +13,7 @@ use Rattle.depot_rows.specs.depot_model.declared.request.Request.{Request}
 use Rattle.depot_rows.specs.Standing.{Stand}
 use Rattle.recovery.specs.Holding.{HasAllRows}
 use Rattle.session_loop.specs.Taking.{placed_by}
-use Rattle.depot_commit.specs.Holding.{generation_in, SameContents, KeepContents, StandsWith}
+use Rattle.depot_commit.specs.Holding.{KeepContents, StandsWith}
 use Rattle.depot_commit.specs.Running.{IsOfFault, IsDoubtOf, IsWrittenFor}
 use Rattle.depot_commit.specs.Writing.{next_if, with_doubtful}
 use Rattle.depot_commit.specs.Opening.{opens_generation}
@@ -21,6 +21,8 @@ use Rattle.depot_commit.proofs.Contents.{contents_alike}
 use Rattle.depot_commit.proofs.Growing.{generation_with}
 use Rattle.depot_commit.proofs.Laws.{steps_alike, contents_after_alike}
 use Rattle.depot_commit.proofs.Places.{same_stand}
+use Rattle.step_limits.specs.Limits.{generation_in}
+use Rattle.depot_facts.specs.Contents.{SameContents}
 
 -- what is kept by one reading is kept by another that follows from it
 pub kept_leads : (P Q : List Deed → Type 0) → ((d : List Deed) → P d → Q d) → (d : List Deed) (places : List Placed) (k : ℕ) → IsKept P d places k → IsKept Q d places k

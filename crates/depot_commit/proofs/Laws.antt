@@ -29,13 +29,13 @@ use Rattle.sound_requests.proofs.All.{asked_sound}
 use Rattle.depots_alike.proofs.Staying as contents
 use Rattle.depots_alike.proofs.Whole.{step_same}
 use Rattle.step_limits.proofs.Whole.{request_keeps_generation, step_from}
-use Rattle.step_limits.specs.Limits.{CountsNoGeneration}
+use Rattle.step_limits.specs.Limits.{CountsNoGeneration, generation_in}
 use Rattle.row_texts.proofs.Changes.{changes_have_texts}
 use Rattle.row_texts.specs.Texts.{IsOf64Bits, is_counted}
 use Rattle.session_loop.specs.Taking.{IsProper}
-use Rattle.depot_commit.specs.Holding.{generation_in, SameContents}
 use Rattle.depot_commit.specs.Writing.{next_if}
 use Rattle.depot_commit.specs.Opening.{is_checkpoint, opens, opens_generation}
+use Rattle.depot_facts.specs.Contents.{SameContents}
 
 -- ---- a sound depot stays sound
 

@@ -18,7 +18,7 @@ use Rattle.depot_rows.specs.depot_model.Step.{after}
 use Rattle.depot_rows.proofs.Keys.{same-is, left-true, right-true}
 use Rattle.depot_rows.proofs.Spelled.{at_path-here}
 use Rattle.depot_rows.specs.Standing.{HasRows, row_in}
-use Rattle.depot_commit.specs.Holding.{SameContents}
+use Rattle.depot_facts.specs.Contents.{SameContents}
 
 -- ---- revisions come behind those that are there
 

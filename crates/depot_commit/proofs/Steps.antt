@@ -24,7 +24,7 @@ use Rattle.depot_rows.specs.depot_model.declared.request.Request.{Request}
 use Rattle.depot_rows.specs.Standing.{Stand}
 use Rattle.recovery.specs.Holding.{HasAllRows}
 use Rattle.session_loop.specs.Taking.{placed_by}
-use Rattle.depot_commit.specs.Holding.{generation_in, SameContents, KeepContents, StandsWith, IsKeptSometime}
+use Rattle.depot_commit.specs.Holding.{KeepContents, StandsWith, IsKeptSometime}
 use Rattle.depot_commit.specs.Placing.{LeavesRows}
 use Rattle.depot_commit.specs.Writing.{IsLeft, with_doubtful}
 use Rattle.depot_commit.specs.Running.{IsOfFault, IsDoubtOf, IsWrittenFor, HasRunOver}
@@ -32,6 +32,8 @@ use Rattle.depot_commit.proofs.Contents.{contents_alike}
 use Rattle.depot_commit.proofs.Kept.{kept_in_doubt, kept_now, told_with}
 use Rattle.depot_commit.proofs.Places.{taken-push, taken-append, quiet_more, same_stand, no_difference, kept_more, kept_whole}
 use Rattle.depot_commit.proofs.Staying.{contents_stay}
+use Rattle.step_limits.specs.Limits.{generation_in}
+use Rattle.depot_facts.specs.Contents.{SameContents}
 
 true_is_not_false : true ≡ false → ⊥
 true_is_not_false e = cc

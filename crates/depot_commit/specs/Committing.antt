@@ -13,9 +13,9 @@ use Rattle.depot_rows.specs.depot_model.declared.order.Place.{Place}
 use Rattle.depot_rows.specs.depot_model.declared.request.Request.{Request}
 use Rattle.depot_rows.specs.Standing.{Stand}
 use Rattle.row_changes.specs.Differences.{AreDifferences}
-use Rattle.depot_commit.specs.Holding.{generation_in}
 use Rattle.depot_commit.specs.Opening.{opens_generation}
 use Rattle.depot_commit.specs.Writing.{next_if}
+use Rattle.step_limits.specs.Limits.{generation_in}
 
 -- Changes of these rows are those of a request: they have a text, they are what differs between these rows and each depot with these rows after the
 -- request's step, and the rows after them are those of that depot. Where there are some, that depot is of the next generation if the request opens one,

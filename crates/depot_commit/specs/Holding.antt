@@ -1,28 +1,17 @@
 -- When images of the two disks stand for a depot. That the counter `journal` is the generation is this project's own choice.
 use Rattle.std.specs.Prelude.{◌≡◌, ℕ, ◌≤◌, List, length, codes}
 use Rattle.outside_api.specs.Disk.{Files}
-use Rattle.depot_rows.specs.db_records.declared.key.Key.TheVariants as keys
 use Rattle.depot_rows.specs.db_records.declared.table.TableId.TheVariants.{Rev}
 use Rattle.disk_journal.specs.Images.{Committed, HasCommitted}
 use Rattle.depot_rows.specs.table_changes.Changed.{AllRows}
 use Rattle.depot_rows.specs.depot_model.Deeds.{Deed}
 use Rattle.depot_runs.specs.Kept.{IsKept}
 use Rattle.depot_rows.specs.depot_model.Places.{Placed}
-use Rattle.depot_rows.specs.depot_model.Records.{record_of}
-use Rattle.depot_rows.specs.depot_model.Rules.{value_of}
-use Rattle.depot_rows.specs.depot_model.Steps.Submitting.{content_at}
 use Rattle.depot_rows.specs.Standing.{Stand}
 use Rattle.recovery.specs.Holding.{HasAllRows, spots_end}
 use Rattle.recovery.specs.Rules.{DeletesAreUnplaced}
 use Rattle.recovery.specs.Standing.{HasContents}
-
--- the generation that a depot tells
-abbrev pub generation_in : List Deed → ℕ
-generation_in d = value_of (record_of d (keys.Counter (codes "journal")))
-
--- two depots with the same contents of revisions
-abbrev pub SameContents : List Deed → List Deed → Type 0
-SameContents d e = (path : List ℕ) (n : ℕ) → content_at d path n ≡ content_at e path n
+use Rattle.step_limits.specs.Limits.{generation_in}
 
 -- An image of the archive's disk has the contents of the depot at the spots of these rows, and no spot ends behind it.
 pub record HasItsContents (rows : AllRows) (d : List Deed) (archive : Files) : Type 0 where

@@ -19,9 +19,11 @@ use Rattle.recovery.specs.Holding.{HasAllRows}
 use Rattle.session_loop.specs.Taking.{placed_by}
 use Rattle.depot_commit.specs.Committing.{AreChangesOf}
 use Rattle.depot_commit.specs.Growing.{IsWritten}
-use Rattle.depot_commit.specs.Holding.{generation_in, SameContents, KeepContents, IsKeptSometime}
+use Rattle.depot_commit.specs.Holding.{KeepContents, IsKeptSometime}
 use Rattle.depot_commit.specs.Opening.{opens_generation}
 use Rattle.depot_commit.specs.Writing.{with_doubtful}
+use Rattle.step_limits.specs.Limits.{generation_in}
+use Rattle.depot_facts.specs.Contents.{SameContents}
 
 -- At these rows and what is committed this was written for a request, or is in doubt: the group of its changes, of which there are some, or the next
 -- generation, if the request opens one. With it what is committed has the rows after the changes.

@@ -24,10 +24,10 @@ use Rattle.replica_turns.specs.Written.{IsWrittenAfter, Leave}
 use Rattle.replica_turns.proofs.Exits.{all_written, generation_is, journal_as, journal_with, newest_is, older_in_doubt, one_more_written}
 use Rattle.replica_turns.proofs.OneMore.{IsOneMore, one_told, rows_now}
 use Rattle.party_threads.specs.depot_commit.Growing.{Chronicle, with_changes}
-use Rattle.party_threads.specs.depot_commit.Holding.{generation_in}
 use Rattle.party_threads.specs.serial_depot.Running.{HasRun}
 use Rattle.p4_server.specs.Checkpoint.{BeginsOrNot, one_if}
 use Rattle.p4_server.proofs.Scheduled.{depot_of}
+use Rattle.step_limits.specs.Limits.{generation_in}
 
 module _ {D : Type 0} (disk_says : DiskSays D) (reads : (disk : D) (files : Files) → disk_says.seen disk files → disk_says.may_leave disk files) (opened : Opened D) (was : Committed) (is : IsOpen disk_says was opened) (d : List Deed) (since : ℕ)
     (h : HasRun disk_says (depot_of disk_says opened) since d []) (past : Past) (c : Chronicle) (master : IsMaster disk_says past d [] (depot_of disk_says opened) c) where

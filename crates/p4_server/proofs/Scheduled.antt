@@ -19,7 +19,7 @@ use Rattle.recovery.specs.Opening.{IsOpen, HasSynced}
 use Rattle.recovery.specs.Rules.{DeletesAreUnplaced}
 use Rattle.recovery.specs.Standing.{StandFor}
 use Rattle.recovery.specs.declared.open.Opened.{Opened}
-use Rattle.party_threads.specs.depot_commit.Holding.{generation_in, AllHaveContents, KeepContents, StandsWith}
+use Rattle.party_threads.specs.depot_commit.Holding.{AllHaveContents, KeepContents, StandsWith}
 use Rattle.replica_turns.specs.Master.{CanBeFollowed, Past}
 use Rattle.replica_turns.specs.Written.{AreWritten, Leave, PairGoesOn}
 use Rattle.replica_turns.proofs.Exits.{leaves_written, pair_stands}
@@ -40,6 +40,7 @@ use Rattle.p4_server.specs.Telling.{IsReport, IsToldAlone, IsUntold}
 use Rattle.p4_server.proofs.FaultPlaces.{caused_since, risen_since, rose_since}
 use Rattle.p4_server.proofs.Contents.{contents_opened, deletes_opened}
 use Rattle.p4_server.proofs.Openings.{read_at_start}
+use Rattle.step_limits.specs.Limits.{generation_in}
 
 module _ {D : Type 0} (disk_says : DiskSays D) where
   abbrev pub depot_of : Opened D → SerialDepot D

@@ -25,7 +25,7 @@ use Rattle.replica_pull.specs.Prefix.{HasGrown, first_rows}
 use Rattle.replica_pull.proofs.Taking.{groups_joined}
 use Rattle.depot_commit.specs.Committing.{AreRowsAfter}
 use Rattle.depot_commit.specs.Growing.{Chronicle, HasGroups, KeepsStored, generations_of, grown, with_changes}
-use Rattle.depot_commit.specs.Holding.{KeepContents, generation_in}
+use Rattle.depot_commit.specs.Holding.{KeepContents}
 use Rattle.depot_commit.specs.Opening.{opens_generation}
 use Rattle.serial_depot.specs.Running.{HasRun}
 use Rattle.serial_depot.specs.declared.depot.SerialDepot.{SerialDepot}
@@ -36,6 +36,7 @@ use Rattle.session_loop.specs.Taking.{placed_by}
 use Rattle.depot_rows.specs.table_changes.Changed.{AllRows, changed_by, rows_of}
 use Rattle.replica_turns.specs.Master.{AreChanges, HasNth, IsMaster, IsNth, Past, all_changes, first_of, texts_in}
 use Rattle.replica_turns.proofs.OneMore.{IsOneMore, all_now, ends_now, fewer_now, one_longer, one_more, rows_now}
+use Rattle.step_limits.specs.Limits.{generation_in}
 
 -- ---- places that are changes
 

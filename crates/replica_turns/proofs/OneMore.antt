@@ -17,13 +17,13 @@ use Rattle.recovery.specs.Holding.{joined, spots_end}
 use Rattle.replica_pull.specs.Prefix.{begun}
 use Rattle.replica_pull.proofs.Counted.{rows_on, with_groups, with_next}
 use Rattle.depot_commit.specs.Growing.{Chronicle, with_changes}
-use Rattle.depot_commit.specs.Holding.{generation_in}
 use Rattle.depot_commit.specs.Opening.{opens_generation}
 use Rattle.depot_commit.proofs.Checkpointed.{made_opened, next_told, telling_rows}
 use Rattle.replica_turns.specs.Master.{AllFit, all_changes, first_of}
 use Rattle.replica_turns.specs.Written.{rows_made}
 use Rattle.replica_turns.proofs.Ends.{ends_rise}
 use Rattle.replica_turns.proofs.Fits.{fit_next, fit_with}
+use Rattle.step_limits.specs.Limits.{generation_in}
 
 -- The changes are those before and one more, which makes these rows of those, none of whose spots ends behind theirs; and they fit where those before did.
 pub record IsOneMore (c now : Chronicle) (rows after_it : AllRows) : Type 0 where

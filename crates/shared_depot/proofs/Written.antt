@@ -4,7 +4,6 @@ use Rattle.std.proofs.lemmas.List.{length-append, length-map}
 use Rattle.depot_commit.proofs.Checkpointed.{made_opened, next_told}
 use Rattle.depot_commit.specs.Committing.{AreRowsAfter}
 use Rattle.depot_commit.specs.Growing.{Chronicle, HasGroups, grown, with_changes}
-use Rattle.depot_commit.specs.Holding.{generation_in}
 use Rattle.depot_commit.specs.Opening.{opens_generation}
 use Rattle.depot_commit.specs.Running.{HasRunOver}
 use Rattle.depot_commit.specs.command_core.Outcomes.{IsOutcome}
@@ -25,6 +24,7 @@ use Rattle.replica_pull.specs.Prefix.{begun}
 use Rattle.replica_turns.proofs.Fits.{fit_next, fit_with}
 use Rattle.replica_turns.specs.Master.{Past, all_changes}
 use Rattle.shared_depot.specs.Common.{HasFitGroups}
+use Rattle.step_limits.specs.Limits.{generation_in}
 
 module _ {D : Type 0} (disk_says : DiskSays D) (past : Past) (tables tables' : Tables) (journal journal' : Journal D) (c : Chronicle) (before : HasFitGroups disk_says past tables journal c)
     (images : Files → Type 0) (used since : ℕ) (start : List Deed) (places : List Placed) (h : HasRunOver disk_says images used tables journal since start places)

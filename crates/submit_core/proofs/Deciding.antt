@@ -12,10 +12,10 @@ use Rattle.depot_rows.specs.depot_model.Steps.Submitting.{landed, landing_number
 use Rattle.reply_rows.specs.Made.{told}
 use Rattle.reply_rows.specs.Refusing.{first_of}
 use Rattle.reply_rows.specs.declared.step.Step.{Step}
-use Rattle.sound_landing.specs.Submits.{MaySubmit}
-use Rattle.sound_landing.proofs.Refusing.{IsAsked as WasAsked, Lands_or_not, submit_cases}
+use Rattle.sound_landing.specs.Submits.{IsAsked, MaySubmit}
+use Rattle.sound_landing.proofs.Refusing.{Lands_or_not, submit_cases}
 use Rattle.step_stores.specs.Stored.{IsStoring}
-use Rattle.submit_core.specs.Submitting.{IsAsked, submit_refusals}
+use Rattle.submit_core.specs.Submitting.{submit_refusals}
 use Rattle.submit_core.proofs.Refusing.{first_refuses, none_refuses}
 use Rattle.submit_core.proofs.Stepping.{refusal_stores}
 
@@ -37,11 +37,8 @@ module _ (d : List Deed) (request : Request) (n : ℕ) (text : List ℕ) where
           subst (λ (m : ModelStep). IsStoring all from d m step) (sym (first_refuses tests (landed d request n text openings) why f)) (refusal_stores all from d why row step one made)
 
   pub decided_landed : IsAsked d request n → None ≡ option_map refusal_row (first_of tests) → (submit d request n text ≡ landed d request n text openings) × MaySubmit d request n
-  decided_landed asked is = (same_step, may (submit_cases d request n text was))
+  decided_landed asked is = (same_step, may (submit_cases d request n text asked))
     where
-      was : WasAsked d request n
-      was = record { user = asked.user; change = asked.change; unshelved = asked.unshelved }
-
       none : first_of tests ≡ None
       none = go (first_of tests) is
         where

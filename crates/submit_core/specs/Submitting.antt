@@ -6,10 +6,8 @@ use Rattle.depot_rows.specs.depot_model.declared.request.Request.{Request}
 use Rattle.depot_rows.specs.depot_model.declared.refusal.Refusal.{Refusal}
 use Rattle.depot_rows.specs.depot_model.declared.refusal.Refusal.TheVariants.{EmptyChange, OverLimit}
 use Rattle.depot_rows.specs.depot_model.declared.refusal.Limit.TheVariants.{Text, Change, Files}
-use Rattle.depot_rows.specs.depot_model.Deeds.{Deed, Opening, Pending}
-use Rattle.depot_rows.specs.depot_model.Numbers.{pending}
-use Rattle.depot_rows.specs.depot_model.Rules.{IsName, IsSound}
-use Rattle.depot_rows.specs.depot_model.Shelves.{is_shelved}
+use Rattle.depot_rows.specs.depot_model.Deeds.{Deed, Opening}
+use Rattle.depot_rows.specs.depot_model.Rules.{IsSound}
 use Rattle.depot_rows.specs.depot_model.Step.{refuse_if}
 use Rattle.depot_rows.specs.depot_model.Steps.Submitting.{file_refusals}
 use Rattle.depot_rows.specs.Standing.{HasRows}
@@ -22,12 +20,6 @@ pub record HasSubmitted (all : AllRows) (d : List Deed) : Type 0 where
   pub resolves : HasRows all d tables.Resolve
   pub workings : HasRows all d tables.Working
   pub revisions : HasRows all d tables.Rev
-
--- what is known before the refusals of the files: a change that is named is pending, of the client, and has no shelved files
-pub record IsAsked (d : List Deed) (request : Request) (n : ℕ) : Type 0 where
-  pub user : IsName request.caller.user
-  pub change : (n ≡ 0) ⊎ ((p : Pending) × ((pending d n ≡ Some p) × (p.client ≡ request.caller.client)))
-  pub unshelved : (n ≡ 0) ⊎ IsFalse (is_shelved d n)
 
 abbrev pub front_refusals : ℕ → List ℕ → ℕ → List (Option Refusal)
 front_refusals n text files = refuse_if (files == 0) (EmptyChange n) ∷ refuse_if (nat_lt 65536 (length text)) (OverLimit Text) ∷ []

@@ -18,10 +18,10 @@ ghost use Rattle.depot_rows.specs.Deed.{opening_of as opening_said};
 ghost use Rattle.depot_rows.specs.Standing.{HasRows};
 ghost use Rattle.named_files.specs.Asked.{IsAsker};
 ghost use Rattle.reply_rows.specs.Refusing.{first_of};
-ghost use Rattle.sound_landing.specs.Submits.{MaySubmit};
+ghost use Rattle.sound_landing.specs.Submits.{IsAsked, MaySubmit};
 ghost use Rattle.step_stores.specs.Stored.{IsStoring};
 ghost use Rattle.submit_core.specs.Premises.{AreOpened, Reads};
-ghost use Rattle.submit_core.specs.Submitting.{HasSubmitted, IsAsked, front_refusals, last_refusals, submit_refusals};
+ghost use Rattle.submit_core.specs.Submitting.{HasSubmitted, front_refusals, last_refusals, submit_refusals};
 ghost use Rattle.depot_rows.specs.table_changes.Changed.{rows_of};
 
 use crate::entries::{Files, files_of};

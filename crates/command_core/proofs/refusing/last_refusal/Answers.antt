@@ -7,7 +7,7 @@ use Rattle.depot_rows.specs.depot_model.Refusals.{refusal_row}
 use Rattle.depot_rows.specs.depot_model.Shelves.{is_shelved}
 use Rattle.depot_rows.specs.depot_model.Step.{refuse_if}
 use Rattle.command_core.proofs.Refusals.{one_refusal}
-use Rattle.command_core.specs.Refusing.{first_of}
+use Rattle.reply_rows.specs.Refusing.{first_of}
 use Rattle.command_core.proofs.refusing.last_refusal.Goals as goal
 
 pub returns-in_ok-shelved-in-SubmitChange : goal.returns-in_ok-shelved-in-SubmitChange

@@ -6,7 +6,7 @@ use Rattle.depot_rows.specs.depot_model.Commands.{own_step}
 use Rattle.depot_rows.specs.depot_model.Common.{last_refusals}
 use Rattle.step_stores.specs.Stored.{IsStoring}
 use Rattle.command_core.specs.Outcomes.{HasTouched}
-use Rattle.command_core.specs.Refusing.{first_of}
+use Rattle.reply_rows.specs.Refusing.{first_of}
 use Rattle.command_core.proofs.Refusals.{not_shelved}
 use Rattle.command_core.proofs.submit_commands.submit_step.Goals as goal
 
