@@ -3,7 +3,9 @@ use Rattle.std.proofs.Common.{◌≡◌, ◌≢◌, ℕ, Bool, true, false, List
 use Rattle.std.specs.Prelude.{◌&&◌, ◌==◌, codes, decimal, IfSome, IsTrue, is_some, filter_map, option_and_then, option_map, if◌then◌else◌}
 use Rattle.std.specs.Option.{option_flatten}
 use Rattle.depot_rows.specs.depot_path.Bytes.{same}
+use Rattle.depot_rows.specs.depot_path.Path.{printed, is_path}
 use Rattle.depot_rows.specs.depot_path.declared.fault.PathFault.{PathFault}
+use Rattle.depot_rows.proofs.depot_path.Paths.{prints_path}
 use Rattle.depot_rows.specs.db_records.declared.key.Key.TheVariants as keys
 use Rattle.depot_rows.specs.db_records.declared.record.Record.{Record}
 use Rattle.depot_rows.specs.spec_form.Form.{FormValue}
@@ -12,13 +14,15 @@ use Rattle.depot_rows.specs.spec_form.declared.shape.Shape.TheVariants.{Shelf as
 use Rattle.depot_rows.specs.depot_model.Arguments.{paths_of}
 use Rattle.depot_rows.specs.depot_model.Deeds.{Deed, Spec, SpecKind, ShelfForm, JobForm, FixForm}
 use Rattle.depot_rows.specs.depot_model.Latest.{when, spec, spec_said, spec_name, same_kind}
+use Rattle.depot_rows.specs.depot_model.Numerals.{is_numeral}
 use Rattle.depot_rows.specs.depot_model.Records.{record_of, shape_of}
 use Rattle.depot_rows.specs.depot_model.Rules.{IsSound, IsSpelled, IsRow, IsForm, IsShelf, IsJob, IsFix, IsPath, value_in}
 use Rattle.depot_rows.specs.depot_model.Shelves.{shelf_name, paths_in, is_of_change, is_kept, kept, kept_paths, shelf_paths, is_shelved}
 use Rattle.depot_rows.specs.depot_model.Values.{value_of}
 use Rattle.depot_rows.specs.Effects.{form_row}
-use Rattle.depot_rows.proofs.Keys.{same-is}
+use Rattle.depot_rows.proofs.Keys.{same-is, same-self, left-true}
 use Rattle.depot_rows.proofs.Entries.{In}
+use Rattle.depot_facts.proofs.Decimals.{decimal_digits, numeral_digits, parts_are}
 use Rattle.depot_facts.proofs.Listed.{filter_in, in_some}
 use Rattle.depot_facts.proofs.Members.{told_in}
 use Rattle.depot_facts.proofs.PathTexts.{path_in_text}
@@ -32,6 +36,21 @@ spec_names kind name form (Spec k x f) e = go (same_kind k kind) (same x name) r
     go true false h g = absurd cc
     go false c h g = absurd cc
 spec_names kind name form _ e = absurd cc
+
+-- a deed that saves the form of a shelved file tells of its path
+shelf_tells : (n : ℕ) (name path : List ℕ) (form : FormValue) → is_of_change n form ≡ true → paths_in (value_of form (codes "Path")) ≡ path ∷ []
+    → (deed : Deed) → spec_said ShelfForm name deed ≡ Some form → In (shelf_paths n deed) path
+shelf_tells n name path form of paths (Spec ShelfForm x f) e = go (same x name) e
+  where
+    told : (is_of_change n form && true) ≡ true → In (if is_of_change n form then paths_in (value_of form (codes "Path")) else []) path
+    told h = subst (λ (b : Bool). In (if b then paths_in (value_of form (codes "Path")) else []) path) (sym of)
+        (subst (λ (ps : List (List ℕ)). In ps path) (sym paths) (inl refl))
+
+    go : (b : Bool) → when b f ≡ Some form → In (if is_of_change n f then paths_in (value_of f (codes "Path")) else []) path
+    go true h = let one : f ≡ form = cc in
+        subst (λ (y : FormValue). In (if is_of_change n y then paths_in (value_of y (codes "Path")) else []) path) (sym one) (told (ap (λ (b : Bool). b && true) of))
+    go false h = absurd cc
+shelf_tells n name path form of paths _ e = absurd cc
 
 -- the form of a row
 module _ (d : List Deed) (sound : IsSound d) where
@@ -91,19 +110,27 @@ module _ (d : List Deed) (sound : IsSound d) where
 
   -- ---- shelved files
 
-  shelf_tells : (n : ℕ) (name path : List ℕ) (form : FormValue) → is_of_change n form ≡ true → paths_in (value_of form (codes "Path")) ≡ path ∷ []
-      → (deed : Deed) → spec_said ShelfForm name deed ≡ Some form → In (shelf_paths n deed) path
-  shelf_tells n name path form of paths (Spec ShelfForm x f) e = go (same x name) e
-    where
-      told : (is_of_change n form && true) ≡ true → In (if is_of_change n form then paths_in (value_of form (codes "Path")) else []) path
-      told h = subst (λ (b : Bool). In (if b then paths_in (value_of form (codes "Path")) else []) path) (sym of)
-          (subst (λ (ps : List (List ℕ)). In ps path) (sym paths) (inl refl))
+  -- the number and the path in the name of a shelved file are those of its form
+  pub shelf_parts : (n : ℕ) (path : List ℕ) (form : FormValue) → spec d ShelfForm (shelf_name n path) ≡ Some form
+      → (decimal n ≡ value_of form (codes "Change")) × (printed path ≡ value_of form (codes "Path"))
+  shelf_parts n path form e =
+      let value : (field : List ℕ) → value_in ShelfShape field (printed_form form) ≡ value_of form field = spec_value ShelfForm (shelf_name n path) form e in
+      let shelf = saved_shelf (shelf_name n path) form e in
+      let numeral : is_numeral (value_of form (codes "Change")) ≡ true = ap is_numeral (sym (value (codes "Change"))) ∙ left-true _ _ (shelf.change) in
+      let named : decimal n ++ 0x20 ∷ printed path ≡ value_of form (codes "Change") ++ 0x20 ∷ value_of form (codes "Path") =
+      shelf.named ∙ (λ i. value (codes "Change") i ++ 0x20 ∷ value (codes "Path") i) in
+      parts_are (decimal n) (value_of form (codes "Change")) (printed path) (value_of form (codes "Path")) (decimal_digits n)
+      (numeral_digits (value_of form (codes "Change")) numeral) named
 
-      go : (b : Bool) → when b f ≡ Some form → In (if is_of_change n f then paths_in (value_of f (codes "Path")) else []) path
-      go true h = let one : f ≡ form = cc in
-          subst (λ (y : FormValue). In (if is_of_change n y then paths_in (value_of y (codes "Path")) else []) path) (sym one) (told (ap (λ (b : Bool). b && true) of))
-      go false h = absurd cc
-  shelf_tells n name path form of paths _ e = absurd cc
+  -- the path of a shelved file stands among those of which deeds tell
+  pub shelf_among : (n : ℕ) (path : List ℕ) → is_path path ≡ true → (form : FormValue) → spec d ShelfForm (shelf_name n path) ≡ Some form
+      → In (paths_of (shelf_paths n) d) path
+  shelf_among n path is form e =
+      let parts = shelf_parts n path form e in
+      let of : is_of_change n form ≡ true = ap (λ (w : List ℕ). same w (decimal n)) (sym parts.0) ∙ same-self (decimal n) in
+      let paths : paths_in (value_of form (codes "Path")) ≡ path ∷ [] =
+      ap paths_in (sym parts.1) ∙ ap (λ (r : Result (List ℕ) PathFault). elim r as (λ _. List (List ℕ)) [ Err fault ↦ [] | Ok p ↦ p ∷ [] ]) (prints_path path is) in
+      told_in (spec_said ShelfForm (shelf_name n path)) (shelf_paths n) path form (shelf_tells n (shelf_name n path) path form of paths) d e
 
   -- a form of a file that is kept in a change shows that it has shelved files
   pub shelf_there : (n : ℕ) (name : List ℕ) (form : FormValue) → spec d ShelfForm name ≡ Some form → is_kept form ≡ true → is_of_change n form ≡ true

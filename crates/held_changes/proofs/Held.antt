@@ -5,26 +5,23 @@ use Rattle.std.specs.List.{list_all, list_any}
 use Rattle.std.specs.Option.{option_map_or}
 use Rattle.std.proofs.lemmas.Bool.{true≢false}
 use Rattle.depot_rows.specs.depot_path.Bytes.{begins_with, same}
-use Rattle.depot_rows.specs.depot_path.Digits.{is_digits}
-use Rattle.depot_rows.specs.depot_path.Path.{printed, is_path}
+use Rattle.depot_rows.specs.depot_path.Path.{is_path}
 use Rattle.depot_rows.specs.spec_form.Form.{FormValue}
 use Rattle.depot_rows.specs.spec_form.declared.shape.Shape.TheVariants.{Shelf as ShelfShape}
 use Rattle.depot_rows.specs.depot_model.Arguments.{paths_of}
 use Rattle.depot_rows.specs.depot_model.Deeds.{Deed, ShelfForm}
 use Rattle.depot_rows.specs.depot_model.Latest.{keys_of, spec, spec_name, spec_said, when}
-use Rattle.depot_rows.specs.depot_model.Numerals.{is_numeral}
-use Rattle.depot_rows.specs.depot_model.Rules.{IsSound}
+use Rattle.depot_rows.specs.depot_model.Rules.{IsSound, value_in}
 use Rattle.depot_rows.specs.depot_model.Shelves.{is_kept, is_of_change, is_shelved, kept, shelf_name, shelf_paths}
 use Rattle.depot_rows.specs.depot_model.Values.{value_of}
 use Rattle.depot_rows.proofs.Keys.{same-is, same-self, left-true, right-true}
-use Rattle.depot_facts.proofs.Decimals.{decimal_digits, parts_are}
-use Rattle.depot_facts.proofs.Read.{spelled_reads, value_is}
-use Rattle.depot_facts.proofs.Found.{saved_shelf, shelf_there, spec_names, spelled}
+use Rattle.depot_facts.proofs.Found.{saved_shelf, shelf_there, spec_names, shelf_parts, spec_value}
 use Rattle.depot_facts.proofs.Members.{key_in}
 use Rattle.depot_facts.proofs.PathsTold.{kept_are}
 use Rattle.depot_facts.proofs.Listed.{any_of}
 use Rattle.named_forms.proofs.Texts.{begins_front}
 use Rattle.held_changes.specs.Holding.{holds, is_held}
+use Rattle.depot_rows.specs.spec_form.Printing.{printed_form}
 
 -- ---- shelved files
 
@@ -60,14 +57,7 @@ module _ (d : List Deed) (sound : IsSound d) (n : ℕ) where
           → list_any held_in (keys_of (spec_name ShelfForm) d) ≡ true
       go None e h = absurd cc
       go (Some form) e h =
-          let reads = spelled_reads ShelfForm form (spelled d sound ShelfForm (shelf_name n z) form e) in
-          let value = value_is ShelfShape form reads in
-          let shelf = saved_shelf d sound (shelf_name n z) form e in
-          let numeral : is_numeral (value_of form (codes "Change")) ≡ true = ap is_numeral (sym (value (codes "Change"))) ∙ left-true _ _ (shelf.change) in
-          let digits = right-true _ _ (left-true (is_digits (value_of form (codes "Change"))) _ numeral) in
-          let named : decimal n ++ 0x20 ∷ printed z ≡ value_of form (codes "Change") ++ 0x20 ∷ value_of form (codes "Path") =
-          shelf.named ∙ (λ i. value (codes "Change") i ++ 0x20 ∷ value (codes "Path") i) in
-          let parts = parts_are (decimal n) (value_of form (codes "Change")) (printed z) (value_of form (codes "Path")) (decimal_digits n) digits named in
+          let parts = shelf_parts d sound n z form e in
           let of : is_of_change n form ≡ true = ap (λ (w : List ℕ). same w (decimal n)) (sym parts.0) ∙ same-self (decimal n) in
           let on : is_kept form ≡ true = is_when (is_kept form) form h in
           let held : held_in (shelf_name n z) ≡ true =
@@ -117,8 +107,7 @@ module _ (d : List Deed) (sound : IsSound d) (n : ℕ) where
           → begins_with name (decimal n ++ 0x20 ∷ []) ≡ true
       go None e k = absurd (true≢false (sym k))
       go (Some form) e k =
-          let reads = spelled_reads ShelfForm form (spelled d sound ShelfForm name form e) in
-          let value = value_is ShelfShape form reads in
+          let value : (field : List ℕ) → value_in ShelfShape field (printed_form form) ≡ value_of form field = spec_value d sound ShelfForm name form e in
           let shelf = saved_shelf d sound name form e in
           let of : value_of form (codes "Change") ≡ decimal n =
           same-is (value_of form (codes "Change")) (decimal n) (right-true (same (value_of form (codes "State")) (codes "kept")) (same (value_of form (codes "Change")) (decimal n)) k) in

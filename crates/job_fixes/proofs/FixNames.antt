@@ -13,14 +13,14 @@ use Rattle.depot_rows.specs.depot_model.Deeds.{Deed, FixForm, JobForm}
 use Rattle.depot_rows.specs.depot_model.Fixes as model
 use Rattle.depot_rows.specs.depot_model.Fixes.{is_on}
 use Rattle.depot_rows.specs.depot_model.Latest.{keys_of, spec, spec_name}
-use Rattle.depot_rows.specs.depot_model.Rules.{IsSound, is_job_name}
+use Rattle.depot_rows.specs.depot_model.Rules.{IsSound, is_job_name, value_in}
 use Rattle.depot_rows.specs.depot_model.Values.{value_of}
 use Rattle.depot_rows.proofs.Keys.{left-true, right-true, same-is}
-use Rattle.depot_facts.proofs.Read.{spelled_reads, value_is}
-use Rattle.depot_facts.proofs.Found.{saved_fix, saved_job, spelled}
+use Rattle.depot_facts.proofs.Found.{saved_fix, saved_job, spec_value}
 use Rattle.depot_facts.proofs.Fixes.{fix_tells}
 use Rattle.named_forms.proofs.Texts.{begins_front}
 use Rattle.job_fixes.specs.Fixes.{fixes_among, is_asked, names_asked}
+use Rattle.depot_rows.specs.spec_form.Printing.{printed_form}
 
 -- names whose forms fail a test may be left out
 module _ (f : List ℕ → Option FormValue) (test : FormValue → Bool) (begins : List ℕ → Bool)
@@ -45,8 +45,7 @@ module _ (f : List ℕ → Option FormValue) (test : FormValue → Bool) (begins
 module _ (d : List Deed) (sound : IsSound d) (digits : Option (List ℕ)) (job : List ℕ) where
   asked_begins : (name : List ℕ) (form : FormValue) → spec d FixForm name ≡ Some form → is_asked digits (Some job) form ≡ true → begins_with name (job ++ 0x20 ∷ []) ≡ true
   asked_begins name form e h =
-      let reads = spelled_reads FixForm form (spelled d sound FixForm name form e) in
-      let value = value_is FixShape form reads in
+      let value : (field : List ℕ) → value_in FixShape field (printed_form form) ≡ value_of form field = spec_value d sound FixForm name form e in
       let both = right-true (is_on form) (option_map_or (same (value_of form (codes "Change"))) digits true && same (value_of form (codes "Job")) job) h in
       let of : value_of form (codes "Job") ≡ job =
       same-is (value_of form (codes "Job")) job (right-true (option_map_or (same (value_of form (codes "Change"))) digits true) (same (value_of form (codes "Job")) job) both) in

@@ -34,8 +34,7 @@ use Rattle.opening_reads.proofs.Onwards.{all_but_first}
 use Rattle.reply_rows.specs.declared.step.Step.{Step}
 use Rattle.reply_rows.specs.Made.{IsMade, told}
 use Rattle.reply_rows.proofs.Joined.{made_refusal, made_row}
-use Rattle.depot_facts.proofs.Read.{spelled_reads, value_is}
-use Rattle.depot_facts.proofs.Found.{saved_shelf, spelled}
+use Rattle.depot_facts.proofs.Found.{saved_shelf, spec_value}
 use Rattle.shelf_ops.specs.Described.{change_told, form_fields, kept_word}
 
 -- ---- the base in the form of a kept file
@@ -59,8 +58,7 @@ module _ (d : List Deed) (sound : IsSound d) (n : ℕ) (path : List ℕ) (form :
 
   base_text : decimal (kept_base form) ≡ value_of form (codes "Base")
   base_text =
-      let reads = spelled_reads ShelfForm form (spelled d sound ShelfForm (shelf_name n path) form saved) in
-      let value = value_is ShelfShape form reads in
+      let value : (field : List ℕ) → shelf_value field (printed_form form) ≡ value_of form field = spec_value d sound ShelfForm (shelf_name n path) form saved in
       let whole : IsKept (record_of d) (printed_form form) = shelf.kept (value (codes "State") ∙ same-is (value_of form (codes "State")) (codes "kept") on) in
       let numeral : is_numeral (value_of form (codes "Base")) ≡ true =
       ap is_numeral (sym (value (codes "Base")))
