@@ -2,6 +2,7 @@
 use Rattle.std.proofs.Common.{◌≡◌, ℕ, Bool, true, false, List, [], ◌∷◌, Some, Result, Ok, Err, refl, sym, ap, ◌∙◌}
 use Rattle.std.specs.Prelude.{◌||◌, ◌&&◌, IsTrue}
 use Rattle.std.specs.List.{list_any, list_all}
+use Rattle.std.proofs.lemmas.Option.{same_Some}
 use Rattle.depot_rows.specs.db_records.declared.table.TableId.{TableId}
 use Rattle.depot_rows.specs.db_records.declared.table.TableId.TheVariants.{Working}
 use Rattle.depot_rows.specs.table_changes.Changed.{AllRows}
@@ -28,24 +29,21 @@ abbrev locks : model.Deed → Bool
 locks (model.Hold held) = true
 locks _ = false
 
-some-is : {A : Type 0} {x y : A} → Some x ≡ Some y → x ≡ y
-some-is e = cc
-
 one_locks : (d : List model.Deed) (done : Deed) (deed : model.Deed) → IsDeed d done deed → is_hold done ≡ locks deed
-one_locks d (Spec kind name form) deed is = ap locks (some-is is)
-one_locks d (Guard lines) deed is = ap locks (some-is is)
-one_locks d (Group name users) deed is = ap locks (some-is is)
-one_locks d (Count name value) deed is = ap locks (some-is is)
-one_locks d (Pend p) deed is = ap locks (some-is is)
-one_locks d (Drop n) deed is = ap locks (some-is is)
-one_locks d (Open o) deed is = ap locks (some-is is)
-one_locks d (Shut held) deed is = ap locks (some-is is)
-one_locks d (Hold held) deed is = ap locks (some-is is)
-one_locks d (Free held) deed is = ap locks (some-is is)
-one_locks d (Got held rev) deed is = ap locks (some-is is)
-one_locks d (Tag label path rev) deed is = ap locks (some-is is)
-one_locks d (Owe o) deed is = ap locks (some-is is)
-one_locks d (Paid held from how) deed is = ap locks (some-is is)
+one_locks d (Spec kind name form) deed is = ap locks (same_Some _ _ is)
+one_locks d (Guard lines) deed is = ap locks (same_Some _ _ is)
+one_locks d (Group name users) deed is = ap locks (same_Some _ _ is)
+one_locks d (Count name value) deed is = ap locks (same_Some _ _ is)
+one_locks d (Pend p) deed is = ap locks (same_Some _ _ is)
+one_locks d (Drop n) deed is = ap locks (same_Some _ _ is)
+one_locks d (Open o) deed is = ap locks (same_Some _ _ is)
+one_locks d (Shut held) deed is = ap locks (same_Some _ _ is)
+one_locks d (Hold held) deed is = ap locks (same_Some _ _ is)
+one_locks d (Free held) deed is = ap locks (same_Some _ _ is)
+one_locks d (Got held rev) deed is = ap locks (same_Some _ _ is)
+one_locks d (Tag label path rev) deed is = ap locks (same_Some _ _ is)
+one_locks d (Owe o) deed is = ap locks (same_Some _ _ is)
+one_locks d (Paid held from how) deed is = ap locks (same_Some _ _ is)
 one_locks d (Land l) deed is = ap locks is.1
 
 -- deeds that follow a depot lock a file exactly where the model's do

@@ -2,23 +2,24 @@
 use Rattle.std.proofs.Common.{◌≡◌, ℕ, zero, suc, Bool, true, false, ◌&&◌, List, [], ◌∷◌, ◌++◌, length, map, filter, Option, Some, None, refl, sym, ap, ◌∙◌, append_assoc, append-nil}
 use Rattle.std.specs.Prelude.{slice_get, flat_map, option_map, option_and_then}
 use Rattle.std.specs.List.{list_all}
-use Rattle.depot_rows.specs.depot_path.Bytes.{same}
+use Rattle.std.proofs.lemmas.Option.{same_Some}
 use Rattle.depot_rows.specs.depot_path.Path.{printed, is_path}
 use Rattle.depot_rows.specs.db_records.declared.key.Key.TheVariants as keys
 use Rattle.depot_rows.specs.db_records.declared.record.Record.{Record}
-use Rattle.depot_rows.specs.depot_model.Deeds.{Deed, Land, Landing, Entry, Credit}
+use Rattle.depot_rows.specs.depot_model.Deeds.{Deed, Land, Landing, Entry}
 use Rattle.depot_rows.specs.db_records.declared.record.Record.TheVariants.{Rev as RevRow}
 use Rattle.depot_rows.specs.db_records.declared.rows.RevRecord.{RevRecord}
 use Rattle.depot_rows.specs.db_records.declared.table.TableId.TheVariants.{Rev}
 use Rattle.depot_rows.specs.table_changes.Changed.{AllRows}
 use Rattle.depot_rows.specs.depot_model.Records.{record_of, rev_record, unplaced, SameRows}
 use Rattle.depot_rows.specs.depot_model.Revisions.{Revision, revision, revisions, revision_in, entries_at}
-use Rattle.depot_rows.specs.depot_model.Rules.{IsSound, has_paths, entry_paths, path_or_none}
+use Rattle.depot_rows.specs.depot_model.Rules.{IsSound, has_paths}
 use Rattle.depot_rows.specs.depot_model.Step.{after}
-use Rattle.depot_rows.proofs.Keys.{same-is, left-true, right-true}
+use Rattle.depot_rows.proofs.Keys.{left-true, right-true}
 use Rattle.depot_rows.proofs.Spelled.{at_path-here}
 use Rattle.depot_rows.specs.Standing.{HasRows, row_in}
 use Rattle.depot_facts.specs.Contents.{SameContents}
+use Rattle.depot_facts.proofs.Nowhere.{no_entry}
 
 -- ---- revisions come behind those that are there
 
@@ -73,21 +74,8 @@ front_all test (x ∷ one) other all =
     let rest = front_all test one other (right-true (test x) (list_all test (one ++ other)) all) in
     (ap (λ (b : Bool). b && list_all test one) (left-true (test x) (list_all test (one ++ other)) all) ∙ rest.0, rest.1)
 
-none_named : (path : List ℕ) → is_path path ≡ false → (entries : List Entry) → list_all is_path (flat_map entry_paths entries) ≡ true → filter (λ (e : Entry). same e.path path) entries ≡ []
-none_named path no_path [] all = refl
-none_named path no_path (e ∷ entries) all =
-    let parts = front_all is_path (entry_paths e) (flat_map entry_paths entries) all in
-    here parts.0 (none_named path no_path entries parts.1) (same e.path path) refl
-  where
-    here : list_all is_path (entry_paths e) ≡ true → filter (λ (e : Entry). same e.path path) entries ≡ [] → (b : Bool) → same e.path path ≡ b → filter (λ (e : Entry). same e.path path) (e ∷ entries) ≡ []
-    here paths rest true is =
-        let path_is : is_path e.path ≡ true = left-true (is_path e.path) (list_all is_path (path_or_none e.moved ++ map (λ (c : Credit). c.from) e.credits)) paths in
-        let no : is_path e.path ≡ false = ap is_path (same-is e.path path is) ∙ no_path in
-        absurd cc
-    here paths rest false is = rw is rest
-
 none_landed : (path : List ℕ) → is_path path ≡ false → (l : Landing) → has_paths (Land l) ≡ true → entries_at path l ≡ []
-none_landed path no_path l all = ap (map (λ (e : Entry). let r : Revision = record { landing = l; entry = e } in r)) (none_named path no_path l.entries all)
+none_landed path no_path l all = ap (map (λ (e : Entry). let r : Revision = record { landing = l; entry = e } in r)) (no_entry path no_path l.entries all)
 
 no_revisions : (path : List ℕ) → is_path path ≡ false → (d : List Deed) → list_all has_paths d ≡ true → revisions d path ≡ []
 no_revisions path no_path [] all = refl
@@ -112,9 +100,6 @@ of_revision : (x : Record) (row : RevRecord) → unplaced x ≡ RevRow row → (
 of_revision (RevRow r) row is = (r, refl)
 of_revision _ row is = absurd cc
 
-some_is : {A : Type 0} {x y : A} → Some x ≡ Some y → x ≡ y
-some_is e = cc
-
 -- the path of a revision is one
 pub path_there : (d : List Deed) → IsSound d → (path : List ℕ) (n : ℕ) (r : Revision) → revision d path n ≡ Some r → is_path path ≡ true
 path_there d sound path zero r there = absurd cc
@@ -133,4 +118,4 @@ row_there d sound rows has path n r there =
     go : (found : Option Record) → row_in rows (keys.Rev (printed path) n) ≡ found → option_map unplaced found ≡ Some (rev_record n r)
         → (row : RevRecord) × (row_in rows (keys.Rev (printed path) n) ≡ Some (RevRow row))
     go None is e = absurd cc
-    go (Some x) is e = let one = of_revision x _ (some_is e) in (one.0, is ∙ ap (λ (y : Record). Some y) one.1)
+    go (Some x) is e = let one = of_revision x _ (same_Some _ _ e) in (one.0, is ∙ ap (λ (y : Record). Some y) one.1)

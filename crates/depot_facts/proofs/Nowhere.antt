@@ -58,7 +58,7 @@ module _ (d : List Deed) (paths : list_all has_paths d ≡ true) (p : List ℕ) 
       said _ e = refl
 
 -- none of the entries is of the text
-no_entry : (p : List ℕ) → is_path p ≡ false → (es : List Entry) → list_all is_path (flat_map entry_paths es) ≡ true → filter (λ (e : Entry). same e.path p) es ≡ []
+pub no_entry : (p : List ℕ) → is_path p ≡ false → (es : List Entry) → list_all is_path (flat_map entry_paths es) ≡ true → filter (λ (e : Entry). same e.path p) es ≡ []
 no_entry p not [] all = refl
 no_entry p not (e ∷ es) all = go (same e.path p) (other_path e.path p (left-true (is_path e.path) _ all) not)
     (no_entry p not es (right-true (list_all is_path (entry_paths e)) (list_all is_path (flat_map entry_paths es))

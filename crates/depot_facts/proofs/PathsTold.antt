@@ -55,15 +55,15 @@ entries_all (x ∷ entries) e = both_true (is_path x.path) (list_all is_path (ma
     (left-true (is_path x.path) _ (front_all (entry_paths x) (flat_map entry_paths entries) e))
     (entries_all entries (back_all (entry_paths x) (flat_map entry_paths entries) e))
 
-landed_told : (deed : Deed) → has_paths deed ≡ true → list_all is_path (landed_paths deed) ≡ true
+pub landed_told : (deed : Deed) → has_paths deed ≡ true → list_all is_path (landed_paths deed) ≡ true
 landed_told (Land l) e = entries_all l.entries e
 landed_told _ e = refl
 
-open_told : (deed : Deed) → has_paths deed ≡ true → list_all is_path (open_paths deed) ≡ true
+pub open_told : (deed : Deed) → has_paths deed ≡ true → list_all is_path (open_paths deed) ≡ true
 open_told (Open o) e = both_true (is_path o.path) true (left-true (is_path o.path) _ e) refl
 open_told _ e = refl
 
-got_told : (client : List ℕ) (deed : Deed) → has_paths deed ≡ true → list_all is_path (got_paths client deed) ≡ true
+pub got_told : (client : List ℕ) (deed : Deed) → has_paths deed ≡ true → list_all is_path (got_paths client deed) ≡ true
 got_told client (Got held rev) e = go (same held.client client)
   where
     go : (b : Bool) → list_all is_path (if b then held.path ∷ [] else []) ≡ true

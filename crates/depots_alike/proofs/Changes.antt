@@ -46,7 +46,8 @@ use Rattle.depots_alike.proofs.Files.{fixes_on_same, last_job_same}
 use Rattle.depots_alike.proofs.Lists.{has, one_path_list, some_paths_rise, has_filter, NamesRise, one_name_list, has_inserted, inserted_rises}
 use Rattle.depots_alike.proofs.Names.{no_openers}
 use Rattle.depots_alike.proofs.Asked.{openers_same}
-use Rattle.depots_alike.proofs.Paths.{submitted_same, opened_by_same, only_test, paths_rise, open_are}
+use Rattle.depot_facts.proofs.PathsTold.{open_told}
+use Rattle.depots_alike.proofs.Paths.{submitted_same, opened_by_same, only_test, paths_rise}
 use Rattle.depots_alike.proofs.Revisions.{revisions_same}
 use Rattle.depots_alike.proofs.Searches.{opened_same, holder_same, spec_same, pending_same, landing_same}
 use Rattle.depots_alike.proofs.Simple.{over_all_same}
@@ -210,8 +211,8 @@ module _ (d e : List Deed) (twins : Twins d e) where
 
   opened_files_same : (all : Bool) (caller : Caller) → opened_files all d caller ≡ opened_files all e caller
   opened_files_same all caller = one_path_list (opened_files all d caller) (opened_files all e caller)
-      (some_paths_rise (λ path. nat_lt 0 (length (openers_shown all d caller path))) (paths_of open_paths d) (paths_rise open_paths open_are d twins.left.paths))
-      (some_paths_rise (λ path. nat_lt 0 (length (openers_shown all e caller path))) (paths_of open_paths e) (paths_rise open_paths open_are e twins.right.paths))
+      (some_paths_rise (λ path. nat_lt 0 (length (openers_shown all d caller path))) (paths_of open_paths d) (paths_rise open_paths open_told d twins.left.paths))
+      (some_paths_rise (λ path. nat_lt 0 (length (openers_shown all e caller path))) (paths_of open_paths e) (paths_rise open_paths open_told e twins.right.paths))
       (λ z. files_has d all caller z ∙ ap (λ (xs : List (List ℕ)). nat_lt 0 (length xs)) (openers_shown_same all caller z) ∙ sym (files_has e all caller z))
 
   opened_row_same : (o : Opening) → opened_row d o ≡ opened_row e o

@@ -12,8 +12,10 @@ use Rattle.depot_rows.specs.depot_model.Deeds.{Deed, Open, Shut, Got, Land, Entr
 use Rattle.depot_rows.specs.depot_model.Latest.{latest, when, have, have_said}
 use Rattle.depot_rows.specs.depot_model.Opened.{opened, opening_said}
 use Rattle.depot_rows.specs.depot_model.Revisions.{Revision, revisions, entries_at}
-use Rattle.depot_rows.specs.depot_model.Rules.{has_paths, entry_paths}
+use Rattle.depot_rows.specs.depot_model.Rules.{has_paths}
 use Rattle.depot_rows.proofs.Keys.{same-is, same-self, left-true, right-true}
+use Rattle.depot_facts.proofs.PathsTold.{got_told, landed_told, open_told}
+use Rattle.depot_facts.proofs.Tests.{either_false}
 use Rattle.depots_alike.proofs.Lists.{has, PathsRise, one_path_list, some_paths_rise, has_all_inserted, all_inserted_rises, has_filter}
 use Rattle.depots_alike.proofs.Searches.{have_same, opened_same, head_same}
 use Rattle.depots_alike.proofs.Twins.{Twins}
@@ -26,32 +28,6 @@ paths_rise reading are [] paths = tt
 paths_rise reading are (deed ∷ d) paths =
     all_inserted_rises (reading deed) (paths_of reading d) (are deed (left-true (has_paths deed) (list_all has_paths d) paths))
     (paths_rise reading are d (right-true (has_paths deed) (list_all has_paths d) paths))
-
-landed_are : (deed : Deed) → has_paths deed ≡ true → list_all is_path (landed_paths deed) ≡ true
-landed_are (Land l) e = go l.entries e
-  where
-    go : (es : List Entry) → list_all is_path (flat_map entry_paths es) ≡ true → list_all is_path (map (λ (e : Entry). e.path) es) ≡ true
-    go [] all = refl
-    go (x ∷ es) all = both (is_path x.path) (list_all is_path (map (λ (e : Entry). e.path) es)) (left-true (is_path x.path) _ all)
-        (go es (right-true (list_all is_path (entry_paths x)) (list_all is_path (flat_map entry_paths es))
-        (sym (list_all-append is_path (entry_paths x) (flat_map entry_paths es)) ∙ all)))
-      where
-        both : (a b : Bool) → a ≡ true → b ≡ true → (a && b) ≡ true
-        both true b e f = f
-        both false b e f = e
-landed_are _ e = refl
-
-got_are : (client : List ℕ) (deed : Deed) → has_paths deed ≡ true → list_all is_path (got_paths client deed) ≡ true
-got_are client (Got held rev) e = go (same held.client client)
-  where
-    go : (b : Bool) → list_all is_path (if b then held.path ∷ [] else []) ≡ true
-    go true = e
-    go false = refl
-got_are client _ e = refl
-
-pub open_are : (deed : Deed) → has_paths deed ≡ true → list_all is_path (open_paths deed) ≡ true
-open_are (Open o) e = ap (λ b. b && true) (left-true (is_path o.path) _ e)
-open_are _ e = refl
 
 -- ---- what is in them
 
@@ -111,17 +87,13 @@ submitted_has (Land l ∷ d) p =
     ∙ sym (any_both (revisions d p) (entries_at p l))
 submitted_has (_ ∷ d) p = submitted_has d p
 
-pub or_false : (a b : Bool) → (a || b) ≡ false → (a ≡ false) × (b ≡ false)
-or_false true b e = absurd cc
-or_false false b e = (refl, e)
-
 not_got : (client p : List ℕ) (d : List Deed) → has (paths_of (got_paths client) d) p ≡ false → latest (have_said client p) d ≡ None
 not_got client p [] e = refl
 not_got client p (Got held rev ∷ d) e =
     go (same held.client client) (same held.path p) refl
-    (or_false (has (got_paths client (Got held rev)) p) (has (paths_of (got_paths client) d) p)
+    (either_false (has (got_paths client (Got held rev)) p) (has (paths_of (got_paths client) d) p)
     (sym (has_all_inserted p (got_paths client (Got held rev)) (paths_of (got_paths client) d)) ∙ e)).0
-    (not_got client p d (or_false (has (got_paths client (Got held rev)) p) (has (paths_of (got_paths client) d) p)
+    (not_got client p d (either_false (has (got_paths client (Got held rev)) p) (has (paths_of (got_paths client) d) p)
     (sym (has_all_inserted p (got_paths client (Got held rev)) (paths_of (got_paths client) d)) ∙ e)).1)
   where
     go : (a b : Bool) → same held.path p ≡ b → has (if a then held.path ∷ [] else []) p ≡ false → latest (have_said client p) d ≡ None
@@ -135,8 +107,8 @@ pub not_opened : (client p : List ℕ) (d : List Deed) → has (paths_of open_pa
 not_opened client p [] e = refl
 not_opened client p (Open o ∷ d) e =
     go (same o.client client) (same o.path p) refl
-    (or_false (has (open_paths (Open o)) p) (has (paths_of open_paths d) p) (sym (has_all_inserted p (open_paths (Open o)) (paths_of open_paths d)) ∙ e)).0
-    (not_opened client p d (or_false (has (open_paths (Open o)) p) (has (paths_of open_paths d) p)
+    (either_false (has (open_paths (Open o)) p) (has (paths_of open_paths d) p) (sym (has_all_inserted p (open_paths (Open o)) (paths_of open_paths d)) ∙ e)).0
+    (not_opened client p d (either_false (has (open_paths (Open o)) p) (has (paths_of open_paths d) p)
     (sym (has_all_inserted p (open_paths (Open o)) (paths_of open_paths d)) ∙ e)).1)
   where
     go : (a b : Bool) → same o.path p ≡ b → has (o.path ∷ []) p ≡ false → opened d client p ≡ None
@@ -169,17 +141,17 @@ opened_by_has d client p =
 
 module _ (d e : List Deed) (twins : Twins d e) where
   pub submitted_same : submitted d ≡ submitted e
-  submitted_same = one_path_list (submitted d) (submitted e) (paths_rise landed_paths landed_are d twins.left.paths) (paths_rise landed_paths landed_are e twins.right.paths)
+  submitted_same = one_path_list (submitted d) (submitted e) (paths_rise landed_paths landed_told d twins.left.paths) (paths_rise landed_paths landed_told e twins.right.paths)
       (λ z. submitted_has d z ∙ any_long (revisions d z) (revisions e z) (head_same d e twins z) ∙ sym (submitted_has e z))
 
   pub had_same : (client : List ℕ) → had d client ≡ had e client
   had_same client = one_path_list (had d client) (had e client)
-      (some_paths_rise (λ path. not (have d client path == 0)) (paths_of (got_paths client) d) (paths_rise (got_paths client) (got_are client) d twins.left.paths))
-      (some_paths_rise (λ path. not (have e client path == 0)) (paths_of (got_paths client) e) (paths_rise (got_paths client) (got_are client) e twins.right.paths))
+      (some_paths_rise (λ path. not (have d client path == 0)) (paths_of (got_paths client) d) (paths_rise (got_paths client) (got_told client) d twins.left.paths))
+      (some_paths_rise (λ path. not (have e client path == 0)) (paths_of (got_paths client) e) (paths_rise (got_paths client) (got_told client) e twins.right.paths))
       (λ z. had_has d client z ∙ ap (λ n. not (n == 0)) (have_same d e twins client z) ∙ sym (had_has e client z))
 
   pub opened_by_same : (client : List ℕ) → opened_by d client ≡ opened_by e client
   opened_by_same client = one_path_list (opened_by d client) (opened_by e client)
-      (some_paths_rise (λ path. is_some (opened d client path)) (paths_of open_paths d) (paths_rise open_paths open_are d twins.left.paths))
-      (some_paths_rise (λ path. is_some (opened e client path)) (paths_of open_paths e) (paths_rise open_paths open_are e twins.right.paths))
+      (some_paths_rise (λ path. is_some (opened d client path)) (paths_of open_paths d) (paths_rise open_paths open_told d twins.left.paths))
+      (some_paths_rise (λ path. is_some (opened e client path)) (paths_of open_paths e) (paths_rise open_paths open_told e twins.right.paths))
       (λ z. opened_by_has d client z ∙ ap is_some (opened_same d e twins client z) ∙ sym (opened_by_has e client z))

@@ -27,7 +27,8 @@ use Rattle.depot_rows.proofs.Keys.{right-true}
 use Rattle.depots_alike.proofs.Changes.{openings_same, fixes_of_same, closes_same}
 use Rattle.depots_alike.proofs.Lists.{has, one_path_list, some_paths_rise, has_filter, has_all_inserted}
 use Rattle.depots_alike.proofs.Names.{only_some}
-use Rattle.depots_alike.proofs.Paths.{same_turned, or_false, only_test, paths_rise}
+use Rattle.depot_facts.proofs.Tests.{either_false}
+use Rattle.depots_alike.proofs.Paths.{same_turned, only_test, paths_rise}
 use Rattle.depots_alike.proofs.Searches.{owed_same, holder_same, head_same, top_same, pending_same}
 use Rattle.depots_alike.proofs.Shelving.{content_of_same, lacks_content_same}
 use Rattle.depots_alike.proofs.Simple.{partner_same, change_refusal_same}
@@ -46,7 +47,7 @@ owed_are client path _ e = refl
 not_owed : (client path z : List ℕ) (d : List Deed) → has (paths_of (owed_from client path) d) z ≡ false → owed d client path z ≡ None
 not_owed client path z [] e = refl
 not_owed client path z (Owe o ∷ d) e =
-    let parts = or_false (has (owed_from client path (Owe o)) z) (has (paths_of (owed_from client path) d) z)
+    let parts = either_false (has (owed_from client path (Owe o)) z) (has (paths_of (owed_from client path) d) z)
     (sym (has_all_inserted z (owed_from client path (Owe o)) (paths_of (owed_from client path) d)) ∙ e) in
     go (same o.client client) (same o.path path) (same o.from z) refl parts.0 (not_owed client path z d parts.1)
   where

@@ -16,16 +16,11 @@ use Rattle.depot_rows.specs.declared.deed.How.TheVariants.{CopyFrom, BranchFrom,
 use Rattle.depot_rows.specs.Deed.{how_of, credit_of}
 use Rattle.depot_rows.proofs.Entries.{In}
 use Rattle.depot_rows.proofs.Keys.{at-self, left-true, right-true}
-use Rattle.depot_facts.proofs.Listed.{flat_in}
+use Rattle.depot_facts.proofs.Listed.{flat_in, map_in}
 use Rattle.depots_of_rows.specs.Telling.{Contents}
 use Rattle.depots_of_rows.proofs.Given.{Given, row_keeps}
 use Rattle.depots_of_rows.proofs.Revised.{some_is}
 use Rattle.depots_of_rows.proofs.Words.{word_of_how, Spells, path_in}
-
-pub in_map_to : {A B : Type 0} (f : A → B) (xs : List A) (x : A) → In xs x → In (map f xs) (f x)
-in_map_to f [] x h = absurd h
-in_map_to f (y ∷ ys) x (inl e) = inl (ap f e)
-in_map_to f (y ∷ ys) x (inr h) = inr (in_map_to f ys x h)
 
 -- a row at a key of integrations is the one that the key spells
 abbrev pub integed_at : List ℕ → List ℕ → ℕ → ℕ → ℕ → ℕ → List ℕ → ℕ → IntegedRecord
@@ -211,5 +206,5 @@ module _ (rows : Rows) (contents : Contents) (g : Given rows contents) where
             let key : Key = one_key from a b how in
             let k : Key × How = (key, how) in
             let there : In (flat_map with_hows ks) k =
-            flat_in with_hows ks key k (listed key one) (in_map_to (λ (h : How). let y : Key × How = (key, h) in y) all_hows how (is_how how)) in
+            flat_in with_hows ks key k (listed key one) (map_in (λ (h : How). let y : Key × How = (key, h) in y) all_hows how (is_how how)) in
             found.all k there (λ i. at-self key key refl i && (one i && other i))

@@ -29,13 +29,14 @@ use Rattle.depot_rows.proofs.Flat.{flat_row}
 use Rattle.depot_rows.proofs.Following.{stays_apart}
 use Rattle.depot_rows.proofs.Keys.{same-is, same-self, number-is, number-self, at-is, at-self, left-true, right-true}
 use Rattle.depot_rows.proofs.Submitted.{land_met}
-use Rattle.depot_facts.proofs.Listed.{contains_in, in_contains, in_flat, flat_in, in_filter, in_map, found_in, finds, get_in, get_either, IsBehind}
+use Rattle.depot_facts.proofs.Listed.{contains_in, in_contains, in_flat, flat_in, in_filter, in_map, found_in, finds, get_in, get_either, IsBehind, map_in}
 use Rattle.depots_of_rows.specs.Telling.{Contents, HasTheseContents}
 use Rattle.depots_of_rows.proofs.Given.{Given, only, row_keeps}
-use Rattle.depots_of_rows.proofs.Side.{Side, both}
+use Rattle.depot_facts.proofs.Tests.{both_true}
+use Rattle.depots_of_rows.proofs.Side.{Side}
 use Rattle.depots_of_rows.proofs.Opened.{put_other}
 use Rattle.depots_of_rows.proofs.Revised.{made_there}
-use Rattle.depots_of_rows.proofs.Credits.{integed_at, integed_is, in_map_to, one_key, other_key, Takes}
+use Rattle.depots_of_rows.proofs.Credits.{integed_at, integed_is, one_key, other_key, Takes}
 use Rattle.depots_of_rows.proofs.Entered.{EntryAt, Entries, all_entries, entries_of, models_of, model_of, are_entries, next_rev, all_paths, entries_have_paths, entries_are_whole}
 use Rattle.depots_of_rows.proofs.History.{before, Stage, ChangeAt, counter_is, top_stays, next_same, is_less}
 
@@ -146,10 +147,10 @@ module _ (rows : Rows) (contents : Contents) (g : Given rows contents) (ks : Lis
               let has : HasRev rows text n = ap is_some k in
               let at = es.all text n (listed q has) has made in
               let passes : (same (printed (at.at.entry.path)) text && (at.at.entry.rev == n)) ≡ true =
-              both (same (printed (at.at.entry.path)) text) (at.at.entry.rev == n)
+              both_true (same (printed (at.at.entry.path)) text) (at.at.entry.rev == n)
               (ap (λ (t : List ℕ). same t text) at.text_is ∙ same-self text)
               (ap (λ (m : ℕ). m == n) at.rev_is ∙ number-self n) in
-              let y = finds (is_revision text n) landing.entries at.at.entry (in_map_to (λ (z : At). z.entry) es.list at.at at.among) passes in
+              let y = finds (is_revision text n) landing.entries at.at.entry (map_in (λ (z : At). z.entry) es.list at.at at.among) passes in
               let two : None ≡ Some y.0 = sym h ∙ y.1 in
               cc)
 
@@ -207,10 +208,10 @@ module _ (rows : Rows) (contents : Contents) (g : Given rows contents) (ks : Lis
         )
 
         credited : In (map credit_of z.entry.credits) k
-        credited = in_map_to credit_of z.entry.credits t.credit (subst (λ xs. In xs t.credit) (sym z.credits_are) t.there)
+        credited = map_in credit_of z.entry.credits t.credit (subst (λ xs. In xs t.credit) (sym z.credits_are) t.there)
 
         within : (r : IntegedRecord) → In (pair_of c (z.entry.path) (z.entry.rev) k) r → In (pairs_of landing) r
-        within r h = flat_in (entry_pairs c) landing.entries z.entry r (in_map_to (λ (y : At). y.entry) es.list z among)
+        within r h = flat_in (entry_pairs c) landing.entries z.entry r (map_in (λ (y : At). y.entry) es.list z among)
             (flat_in (pair_of c (z.entry.path) (z.entry.rev)) (map credit_of z.entry.credits) k r credited h)
 
   module _ (to from : List ℕ) (a b i j : ℕ) (how : List ℕ) where
@@ -407,8 +408,8 @@ module _ (rows : Rows) (contents : Contents) (g : Given rows contents) (ks : Lis
     stay = s.built.side.stay;
     lines = s.built.side.lines;
     forms = s.built.side.forms;
-    paths = both (has_paths (model.Land landing_is)) (list_all has_paths d) (entries_have_paths rows contents g ks listed c es.list) s.built.side.paths;
-    whole = both (have_their_contents landing_is) (list_all have_their_contents (landings d)) (entries_are_whole rows contents g ks listed c es.list) s.built.side.whole;
+    paths = both_true (has_paths (model.Land landing_is)) (list_all has_paths d) (entries_have_paths rows contents g ks listed c es.list) s.built.side.paths;
+    whole = both_true (have_their_contents landing_is) (list_all have_their_contents (landings d)) (entries_are_whole rows contents g ks listed c es.list) s.built.side.whole;
     these = these_after;
   }
 

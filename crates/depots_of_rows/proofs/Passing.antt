@@ -25,7 +25,8 @@ use Rattle.depot_rows.proofs.Entries.{In}
 use Rattle.depot_rows.proofs.Keys.{at-self, same-is}
 use Rattle.depots_of_rows.specs.Telling.{Contents}
 use Rattle.depots_of_rows.proofs.Given.{Given, or_at, row_keeps, none_more, known_more}
-use Rattle.depots_of_rows.proofs.Side.{Built, both}
+use Rattle.depot_facts.proofs.Tests.{both_true}
+use Rattle.depots_of_rows.proofs.Side.{Built}
 use Rattle.depots_of_rows.proofs.Words.{Spells, Moves, Takes, path_in, moved_in, source_in, action_in, how_in, form_in, either_true, word_of_how, word_of_action}
 use Rattle.depots_of_rows.proofs.Simple.{Further, count_one, group_one, spec_one, have_one, label_one}
 use Rattle.depots_of_rows.proofs.Opened.{owe_one, pay_one, open_one, hold_one}
@@ -155,7 +156,7 @@ module _ (rows : Rows) (contents : Contents) (g : Given rows contents) (test : K
       source_paths (Some s) e = e
 
       has : has_paths (model.Open (opening_of opening)) ≡ true
-      has = both (is_path path.path) _ path.is (all_append is_path (path_or_none moved.moved) _ moved.paths (source_paths source.source source.paths))
+      has = both_true (is_path path.path) _ path.is (all_append is_path (path_or_none moved.moved) _ moved.paths (source_paths source.source source.paths))
 
       go : (lock : ℕ) → x.lock ≡ lock → lock ≤ 1 → Further rows contents test (keys.Working (printed path.path) x.client)
       go zero e low = open_one rows contents g test d b opening path.is has (row_is 0 e)

@@ -28,7 +28,8 @@ use Rattle.depot_rows.proofs.Spelled.{at_path-nothing}
 use Rattle.depot_facts.proofs.Listed.{contains_in}
 use Rattle.depots_of_rows.specs.Telling.{Contents}
 use Rattle.depots_of_rows.proofs.Given.{Given, only}
-use Rattle.depots_of_rows.proofs.Side.{Side, Built, both}
+use Rattle.depot_facts.proofs.Tests.{both_true}
+use Rattle.depots_of_rows.proofs.Side.{Side, Built}
 use Rattle.depots_of_rows.proofs.Opened.{put_other}
 use Rattle.depots_of_rows.proofs.Revised.{submitted_by}
 use Rattle.depots_of_rows.proofs.History.{before, Stage, ChangeAt, change_at, counter_is, top_stays, next_same, less, is_less, never_less, no_rev, no_pair, paired_by}
@@ -252,7 +253,7 @@ module _ (rows : Rows) (contents : Contents) (g : Given rows contents) where
           record {
             agree = side.agree;
             apart = stays_apart d (Pend pending) (model.Pend (pending_of pending)) side.apart refl free;
-            stay = both (is_none (landing d c)) (stay_landed d) (ap is_none (not_landed d c side.apart free)) side.stay;
+            stay = both_true (is_none (landing d c)) (stay_landed d) (ap is_none (not_landed d c side.apart free)) side.stay;
             lines = side.lines;
             forms = side.forms;
             paths = side.paths;

@@ -17,11 +17,10 @@ use Rattle.depot_rows.specs.depot_model.Rules.{Rows, KeepRules, IsSound}
 use Rattle.depot_rows.specs.Standing.{Stand, unplaced_at}
 use Rattle.depot_rows.proofs.Entries.{In}
 use Rattle.depot_rows.proofs.Keys.{at-is}
-use Rattle.depot_facts.proofs.Listed.{flat_in, found_in}
+use Rattle.depot_facts.proofs.Listed.{flat_in, found_in, map_in}
 use Rattle.depots_of_rows.specs.Telling.{all_unplaced, Contents, KeepAllRules, HasTheseContents}
 use Rattle.depots_of_rows.proofs.Given.{Given, only}
 use Rattle.depots_of_rows.proofs.Side.{Side, Built, sound_by}
-use Rattle.depots_of_rows.proofs.Credits.{in_map_to}
 use Rattle.depots_of_rows.proofs.Guarded.{guard_all}
 use Rattle.depots_of_rows.proofs.Stages.{history, all_changes}
 use Rattle.depots_of_rows.proofs.Passing.{settled, passed, in_passed, pass_all}
@@ -97,7 +96,7 @@ module _ (rows : AllRows) where
   listed q h =
       let f = found q (row_at q (rows (key_table q))) refl h in
       flat_in of_table all_tables (key_table q) q (table_in (key_table q))
-      (subst (In (of_table (key_table q))) f.1.1 (in_map_to key_of (rows (key_table q)) f.0 f.1.0))
+      (subst (In (of_table (key_table q))) f.1.1 (map_in key_of (rows (key_table q)) f.0 f.1.0))
 
   keyed : (q : Key) (r : Record) → all_unplaced rows q ≡ Some r → key_of r ≡ q
   keyed q r e =

@@ -2,6 +2,7 @@
 use Rattle.std.proofs.Common.{◌≡◌, ◌⊎◌, ℕ, zero, suc, Bool, true, false, List, [], ◌∷◌, length, Option, Some, None, inl, inr, refl, sym, ap, subst, ◌∙◌}
 use Rattle.std.specs.Prelude.{is_some, is_none, if◌then◌else◌, option_map, option_and_then}
 use Rattle.std.specs.List.{list_all}
+use Rattle.std.proofs.lemmas.Option.{same_Some}
 use Rattle.depot_rows.specs.depot_path.Path.{printed, is_path}
 use Rattle.depot_rows.proofs.depot_path.Paths.{prints_path}
 use Rattle.depot_rows.specs.db_records.Record.{is_live}
@@ -21,13 +22,9 @@ use Rattle.depot_rows.specs.depot_model.Rules.{IsSound, has_its_content, have_th
 use Rattle.depot_rows.specs.depot_model.Steps.Submitting.{content_at}
 use Rattle.depot_rows.specs.Standing.{HasRows}
 use Rattle.depot_rows.proofs.Entries.{In, of_path}
-use Rattle.depot_rows.proofs.Keys.{left-true, right-true}
-use Rattle.depot_facts.proofs.Listed.{in_append, in_filter, in_map, get_in}
+use Rattle.depot_facts.proofs.Listed.{in_append, in_filter, in_map, get_in, all_in}
 use Rattle.depot_facts.proofs.PathTexts.{at_read}
 use Rattle.file_contents.specs.Contents.{TellsContent}
-
-some-is : {A : Type 0} {x y : A} → Some x ≡ Some y → x ≡ y
-some-is e = cc
 
 -- a revision is an entry of a change that landed
 entry_in : (d : List Deed) (x : List ℕ) (r : Revision) → In (revisions d x) r → In (landings d) r.landing × In (r.landing).entries r.entry
@@ -42,11 +39,6 @@ entry_in (Land l ∷ d) x r h = go (in_append (revisions d x) (entries_at x l) r
         let f = in_filter _ l.entries e.0 e.1.0 in
         (inl (ap (λ (q : Revision). q.landing) e.1.1), subst (λ (q : Revision). In (q.landing).entries q.entry) e.1.1 f.0)
 entry_in (deed ∷ d) x r h = entry_in d x r h
-
-all_in : {A : Type 0} (test : A → Bool) (xs : List A) → list_all test xs ≡ true → (x : A) → In xs x → test x ≡ true
-all_in test [] all x h = absurd h
-all_in test (y ∷ ys) all x (inl e) = ap test (sym e) ∙ left-true (test y) (list_all test ys) all
-all_in test (y ∷ ys) all x (inr h) = all_in test ys (right-true (test y) (list_all test ys) all) x h
 
 live_word : (a : Action) (row : RevRecord) → row.action ≡ action_word a → is_live (records.Rev row) ≡ is_live_action a
 live_word a row e = ap (λ (w : List ℕ). is_live (records.Rev (record row { action = w }))) e ∙ by a
@@ -99,7 +91,7 @@ module _ (all : AllRows) (d : List Deed) (path : List ℕ) (n : ℕ) (sound : Is
 
       go : (o : Option Revision) → revision d path n ≡ o → Some (unplaced (records.Rev row)) ≡ option_map (rev_record n) o → TellsContent row (option_and_then (λ (r : Revision). (r.entry).content) o)
       go None f is = absurd cc
-      go (Some r) f is = of_rev r f (some-is is)
+      go (Some r) f is = of_rev r f (same_Some _ _ is)
 
   pub untold : row_at (keys.Rev (printed path) n) (all tables.Rev) ≡ None → content_at d path n ≡ None
   untold e = go (revision d path n) (ap (option_map unplaced) (sym e) ∙ said)

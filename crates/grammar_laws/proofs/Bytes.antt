@@ -4,6 +4,7 @@ use Rattle.std.specs.Prelude.{◌==◌, ◌||◌, not, nat_le, codes, decimal, i
 use Rattle.std.specs.Fmt.{digits, digits_onto, digit_glyph}
 use Rattle.std.specs.List.{list_any}
 use Rattle.std.proofs.lemmas.Bool.Decides.{nat_tests}
+use Rattle.std.proofs.lemmas.Bool.{not-true}
 use Rattle.depot_rows.specs.depot_path.Bytes.{is_control, is_digit}
 use Rattle.depot_rows.specs.depot_path.Name.{is_name, is_barred}
 use Rattle.depot_rows.specs.depot_path.Path.{is_path, printed, escaped}
@@ -11,10 +12,6 @@ use Rattle.depot_rows.proofs.Keys.{left-true, right-true, number-is, number-self
 use Rattle.depot_facts.proofs.Decimals.{decimal_digits, digits_without}
 use Rattle.wire_text.specs.Parts.{IsFree}
 use Rattle.wire_text.proofs.Separators.{free_append}
-
-pub not_true : (a : Bool) → not a ≡ true → a ≡ false
-not_true true e = absurd cc
-not_true false e = refl
 
 pub or_left : (a b : Bool) → (a || b) ≡ false → a ≡ false
 or_left true b e = absurd cc
@@ -38,7 +35,7 @@ free_of test c is (b ∷ text) e = (apart (b == c) refl, free_of test c is text 
 -- ---- names
 
 pub name_free : (c : ℕ) (name : List ℕ) → is_barred c ≡ true → is_name name ≡ true → IsFree c name
-name_free c name barred is = free_of is_barred c barred name (not_true (list_any is_barred name) (right-true _ _ (left-true _ _ (left-true _ _ is))))
+name_free c name barred is = free_of is_barred c barred name (not-true (list_any is_barred name) (right-true _ _ (left-true _ _ (left-true _ _ is))))
 
 -- ---- numbers
 
@@ -61,7 +58,7 @@ decimal_short n = onto_length 64 n []
 -- ---- paths
 
 pub path_plain : (path : List ℕ) → is_path path ≡ true → list_any is_control path ≡ false
-path_plain path is = not_true (list_any is_control path) (right-true _ _ (right-true _ _ (left-true _ _ (left-true _ _ is))))
+path_plain path is = not-true (list_any is_control path) (right-true _ _ (right-true _ _ (left-true _ _ (left-true _ _ is))))
 
 pub path_short : (path : List ℕ) → is_path path ≡ true → length (printed path) ≤ 1024
 path_short path is =

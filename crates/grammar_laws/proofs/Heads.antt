@@ -12,7 +12,8 @@ use Rattle.wire_text.specs.declared.head.Head.TheVariants.{Session, Replica}
 use Rattle.wire_text.proofs.Heads.{parted_whole}
 use Rattle.wire_text.proofs.Separators.{free_append}
 use Rattle.grammar_laws.specs.ScriptText.{spaced, head_line, is_caller, is_one_word, is_head}
-use Rattle.grammar_laws.proofs.Bytes.{free_of, not_true, name_free}
+use Rattle.grammar_laws.proofs.Bytes.{free_of, name_free}
+use Rattle.std.proofs.lemmas.Bool.{not-true}
 
 -- ---- words with one space between
 
@@ -43,12 +44,12 @@ module _ (c : ℕ) (barred : is_barred c ≡ true) where
 patterns_spaceless : (patterns : List (List ℕ)) → list_all is_one_word patterns ≡ true → AreFree 0x20 patterns
 patterns_spaceless [] all = tt
 patterns_spaceless (pattern ∷ patterns) all =
-    (free_of (λ x. x == 0x20) 0x20 refl pattern (not_true _ (left-true _ _ (left-true _ _ all))), patterns_spaceless patterns (right-true _ _ all))
+    (free_of (λ x. x == 0x20) 0x20 refl pattern (not-true _ (left-true _ _ (left-true _ _ all))), patterns_spaceless patterns (right-true _ _ all))
 
 patterns_lineless : (patterns : List (List ℕ)) → list_all is_one_word patterns ≡ true → AreFree 0x0A patterns
 patterns_lineless [] all = tt
 patterns_lineless (pattern ∷ patterns) all =
-    (free_of (λ x. x == 0x0A) 0x0A refl pattern (not_true _ (right-true _ _ (left-true _ _ all))), patterns_lineless patterns (right-true _ _ all))
+    (free_of (λ x. x == 0x0A) 0x0A refl pattern (not-true _ (right-true _ _ (left-true _ _ all))), patterns_lineless patterns (right-true _ _ all))
 
 module _ (caller : Caller) (is : is_caller caller ≡ true) where
   user_is : is_name caller.user ≡ true

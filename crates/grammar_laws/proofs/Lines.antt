@@ -21,7 +21,8 @@ use Rattle.wire_text.specs.Words.{words_from, quoted_word, with_word, is_apart, 
 use Rattle.wire_text.proofs.Separators.{in_line, past_line, upto_line, last_line, free_append}
 use Rattle.wire_text.proofs.WordLists.{quoted_says}
 use Rattle.grammar_laws.specs.ScriptText.{quoted, command_line, is_word, is_line}
-use Rattle.grammar_laws.proofs.Bytes.{free_of, not_true, decimal_free, decimal_short, path_free, path_short}
+use Rattle.grammar_laws.proofs.Bytes.{free_of, decimal_free, decimal_short, path_free, path_short}
+use Rattle.std.proofs.lemmas.Bool.{not-true}
 
 -- ---- paths and lengths
 
@@ -85,10 +86,10 @@ command_is client waits (Words words) = refl
 command_is client waits Bad = refl
 
 word_free : (word : List ℕ) → is_word word ≡ true → IsFree 0x22 word
-word_free word is = free_of (λ x. x == 0x22) 0x22 refl word (not_true _ (right-true _ _ is))
+word_free word is = free_of (λ x. x == 0x22) 0x22 refl word (not-true _ (right-true _ _ is))
 
 word_plain : (word : List ℕ) → is_word word ≡ true → list_any is_control word ≡ false
-word_plain word is = not_true _ (right-true _ _ (left-true _ _ is))
+word_plain word is = not-true _ (right-true _ _ (left-true _ _ is))
 
 word_utf8 : (word : List ℕ) → is_word word ≡ true → is_utf8 word ≡ true
 word_utf8 word is = left-true _ _ (left-true _ _ is)

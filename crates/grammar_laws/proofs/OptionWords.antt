@@ -14,7 +14,7 @@ use Rattle.command_words.specs.Reading.{form_command, known_command, command_of}
 use Rattle.command_words.specs.Table.{table, is_command, takes_value}
 use Rattle.command_words.specs.Values.{is_value, no_value}
 use Rattle.grammar_laws.specs.CommandText.{OptionText, Flag, Valued, option_words, CommandText, text_of, words_of}
-use Rattle.grammar_laws.proofs.Bytes.{not_true}
+use Rattle.std.proofs.lemmas.Bool.{not-true}
 
 -- an option as it is kept
 abbrev pub given_by : OptionText → Given
@@ -51,7 +51,7 @@ module _ (command : List ℕ) (done : List Given) (option : List ℕ) where
       ]) is
 
   after_flag : (kind : _) → not (takes_value kind) ≡ true → after_option done option kind ≡ Ready (done ++ given option [] ∷ [])
-  after_flag kind e = ap (λ (b : Bool). elim b as (λ _. State) [ false ↦ Ready (done ++ given option [] ∷ []) | true ↦ Waiting option kind done ]) (not_true (takes_value kind) e)
+  after_flag kind e = ap (λ (b : Bool). elim b as (λ _. State) [ false ↦ Ready (done ++ given option [] ∷ []) | true ↦ Waiting option kind done ]) (not-true (takes_value kind) e)
 
   after_valued : (kind : _) → takes_value kind ≡ true → after_option done option kind ≡ Waiting option kind done
   after_valued kind e = ap (λ (b : Bool). elim b as (λ _. State) [ false ↦ Ready (done ++ given option [] ∷ []) | true ↦ Waiting option kind done ]) e
@@ -76,7 +76,7 @@ arguments_read command done (word ∷ words) plain =
     ap (λ (b : Bool). elim b as (λ _. Result Invocation WordFault) [
       | false ↦ Ok (invocation command done (word ∷ words))
       | true ↦ next_kind command done word >>= (λ kind. parted command (after_option done word kind) words)
-    ]) (not_true (is_option word) plain)
+    ]) (not-true (is_option word) plain)
 
 options_read : (command : List ℕ) (done : List Given) (options : List OptionText) (arguments : List (List ℕ)) → can_read command done options ≡ true → is_plain arguments ≡ true
     → parted command (Ready done) (flat_map option_words options ++ arguments) ≡ Ok (invocation command (done ++ map given_by options) arguments)

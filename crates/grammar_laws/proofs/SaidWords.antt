@@ -15,7 +15,8 @@ use Rattle.wire_text.specs.Parts.{upto, past, is_in, IsFree}
 use Rattle.wire_text.specs.Words.{words_from, with_word, quoted_word, plain_word, is_apart, is_clean, line_of, line_of_words}
 use Rattle.wire_text.proofs.Separators.{split_upto, free_upto}
 use Rattle.grammar_laws.specs.ScriptText.{is_word, is_line}
-use Rattle.grammar_laws.proofs.Bytes.{not_true, or_left, or_right}
+use Rattle.grammar_laws.proofs.Bytes.{or_left, or_right}
+use Rattle.std.proofs.lemmas.Bool.{not-true}
 
 -- ---- parts of a clean text
 
@@ -26,12 +27,12 @@ plain_parts a b e =
 
 clean_front : (a b : List ℕ) (x : ℕ) → x < 0x80 → is_clean (a ++ x ∷ b) ≡ true → is_clean a ≡ true
 clean_front a b x low e =
-    both (is_utf8 a) (not (list_any is_control a)) (utf8_front a x b low (left-true _ _ e)) (ap not (plain_parts a (x ∷ b) (not_true _ (right-true _ _ e))).0)
+    both (is_utf8 a) (not (list_any is_control a)) (utf8_front a x b low (left-true _ _ e)) (ap not (plain_parts a (x ∷ b) (not-true _ (right-true _ _ e))).0)
 
 clean_rest : (a b : List ℕ) (x : ℕ) → x < 0x80 → is_clean (a ++ x ∷ b) ≡ true → is_clean b ≡ true
 clean_rest a b x low e =
     both (is_utf8 b) (not (list_any is_control b)) (utf8_rest a x b low (left-true _ _ e))
-    (ap not (or_right (is_control x) (list_any is_control b) (plain_parts a (x ∷ b) (not_true _ (right-true _ _ e))).1))
+    (ap not (or_right (is_control x) (list_any is_control b) (plain_parts a (x ∷ b) (not-true _ (right-true _ _ e))).1))
 
 pub not_among : (c : ℕ) (text : List ℕ) → IsFree c text → is_among text c ≡ false
 not_among c [] free = refl

@@ -21,7 +21,7 @@ use Rattle.command_words.specs.Values.{most_value, name, value, text}
 use Rattle.command_words.specs.WordForms as forms
 use Rattle.command_words.proofs.Giving.{Gives, gives, refused, after_it, after_any, given_where, taken_where, is_given}
 use Rattle.grammar_laws.specs.CommandText.{AreJobs, IsSpelled}
-use Rattle.grammar_laws.proofs.Bytes.{not_true}
+use Rattle.std.proofs.lemmas.Bool.{not-true}
 use Rattle.grammar_laws.proofs.Giving.{arguments_plain, one_value}
 use Rattle.grammar_laws.proofs.OptionWords.{is_plain}
 use Rattle.grammar_laws.proofs.SpelledFiles as files
@@ -82,12 +82,12 @@ admin_by command (word ∷ rest) =
 
 job_by : (command : List ℕ) (words : List (List ℕ)) → is_plain words ≡ true → Gives IsSpelled (arguments.at_most_one command (text command) words >>= (λ job. Ok (commands.JobShow job)))
 job_by command [] plain = spelled (commands.JobShow None) tt
-job_by command (word ∷ []) plain = spelled (commands.JobShow (Some word)) (not_true (is_option word) plain)
+job_by command (word ∷ []) plain = spelled (commands.JobShow (Some word)) (not-true (is_option word) plain)
 job_by command (word ∷ more ∷ words) plain = refused _ _
 
 jobs_given : (command : List ℕ) (words : List (List ℕ)) → is_plain words ≡ true → Gives AreJobs (arguments.some_words command words)
 jobs_given command [] plain = refused _ _
-jobs_given command (word ∷ words) plain = gives AreJobs (word ∷ words) (not_true (is_option word) plain)
+jobs_given command (word ∷ words) plain = gives AreJobs (word ∷ words) (not-true (is_option word) plain)
 
 module _ (words : Invocation) (plain : is_plain words.arguments ≡ true) where
   jobs_then : (f : List (List ℕ) → Result Command WordFault) → ((jobs : List (List ℕ)) → AreJobs jobs → Gives IsSpelled (f jobs)) → Gives IsSpelled (arguments.some_words words.command words.arguments >>= f)

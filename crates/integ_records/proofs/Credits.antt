@@ -21,7 +21,6 @@ use Rattle.row_ranges.specs.Ranges.{has_row}
 use Rattle.row_ranges.specs.declared.range.KeyRange.TheVariants.{Integrations}
 use Rattle.depot_rows.specs.depot_model.Deeds.{Credit, Deed, How}
 use Rattle.depot_rows.specs.depot_model.Records.{integrations, into_word, record_of, rev_record}
-use Rattle.depot_rows.specs.depot_model.Records as model
 use Rattle.depot_rows.specs.depot_model.Revisions.{Revision, credited, credits_from, has_credit, revision, revisions}
 use Rattle.depot_rows.specs.depot_model.Rows.{how_word}
 use Rattle.depot_rows.specs.depot_model.Rules.{IsCredit, IsCredited, IsMadeIn, IsPaired, IsRow, IsSound}
@@ -30,7 +29,7 @@ use Rattle.depot_rows.proofs.Keys.{at-is, left-true, right-true, same-is, same-s
 use Rattle.depot_rows.proofs.Spelled.{at_path-here}
 use Rattle.depot_rows.specs.Standing.{unplaced_at}
 use Rattle.depot_facts.proofs.Listed.{found_in, any_of, one_of, place_of}
-use Rattle.depot_facts.proofs.Credits.{of_key, own_row, Tells, Written, is_how, one_number, other_word, own_word, tells, writes}
+use Rattle.depot_facts.proofs.Credits.{of_key, own_row, Tells, Written, is_how, one_number, other_word, own_word, tells, writes, test_at, integed_key}
 use Rattle.row_reads.proofs.Alike.{unplaced_row}
 use Rattle.row_rules.proofs.Found.{at_own, found_behind}
 use Rattle.depot_facts.proofs.PathTexts.{one_path}
@@ -38,12 +37,6 @@ use Rattle.depot_facts.proofs.Revisions.{in_revision}
 use Rattle.std.proofs.Math.Bool.{or-true}
 use Rattle.integ_records.specs.Crediting.{is_within, span_of_row, span_of_rows}
 use Rattle.integ_records.specs.declared.crediting.Span.{Span}
-
-abbrev key_for : IntegedRecord → Key
-key_for z = key_of (records.Integed z)
-
-abbrev has_key : Key → IntegedRecord → Bool
-has_key key r = model.is_at key (key_of (records.Integed r))
 
 -- the other record of the pair
 abbrev mirror : IntegedRecord → List ℕ → IntegedRecord
@@ -101,7 +94,7 @@ any_kept p h f (row ∷ rows) = go (h row) (any_kept p h f rows)
 
 module _ (d : List Deed) where
   abbrev HasRow : IntegedRecord → Type 0
-  HasRow z = record_of d (key_for z) ≡ Some (records.Integed z)
+  HasRow z = record_of d (integed_key z) ≡ Some (records.Integed z)
 
   row_of_found : (found : Option IntegedRecord) (z : IntegedRecord) → option_map (λ (r : IntegedRecord). records.Integed r) found ≡ Some (records.Integed z) → found ≡ Some z
   row_of_found None z e = absurd cc
@@ -109,22 +102,22 @@ module _ (d : List Deed) where
 
   -- a row is one of the integration records
   row_is : (z : IntegedRecord) → HasRow z → In (integrations d) z
-  row_is z e = (found_in (has_key (key_for z)) (integrations d) z (row_of_found (find (has_key (key_for z)) (integrations d)) z e)).0
+  row_is z e = (found_in (test_at (integed_key z)) (integrations d) z (row_of_found (find (test_at (integed_key z)) (integrations d)) z e)).0
 
   -- a key has the record that it spells
-  spelled : (z : IntegedRecord) → IsSome (record_of d (key_for z)) → HasRow z
-  spelled z has = go (find (has_key (key_for z)) (integrations d)) refl has
+  spelled : (z : IntegedRecord) → IsSome (record_of d (integed_key z)) → HasRow z
+  spelled z has = go (find (test_at (integed_key z)) (integrations d)) refl has
     where
-      go : (found : Option IntegedRecord) → find (has_key (key_for z)) (integrations d) ≡ found → IsSome (option_map (λ (r : IntegedRecord). records.Integed r) found)
-          → option_map (λ (r : IntegedRecord). records.Integed r) (find (has_key (key_for z)) (integrations d)) ≡ Some (records.Integed z)
+      go : (found : Option IntegedRecord) → find (test_at (integed_key z)) (integrations d) ≡ found → IsSome (option_map (λ (r : IntegedRecord). records.Integed r) found)
+          → option_map (λ (r : IntegedRecord). records.Integed r) (find (test_at (integed_key z)) (integrations d)) ≡ Some (records.Integed z)
       go None e k = absurd cc
       go (Some y) e k =
-          let at = found_in (has_key (key_for z)) (integrations d) y e in
+          let at = found_in (test_at (integed_key z)) (integrations d) y e in
           ap (option_map (λ (r : IntegedRecord). records.Integed r)) e
-          ∙ ap (λ (r : IntegedRecord). Some (records.Integed r)) (sym (of_key z y (at-is (key_for z) (key_for y) at.1)))
+          ∙ ap (λ (r : IntegedRecord). Some (records.Integed r)) (sym (of_key z y (at-is (integed_key z) (integed_key y) at.1)))
 
   ruled : (sound : IsSound d) (z : IntegedRecord) → HasRow z → IsRow (record_of d) (records.Integed z)
-  ruled sound z e = subst (λ (o : Option Record). IfSome o (IsRow (record_of d))) e (sound.rules.each (key_for z))
+  ruled sound z e = subst (λ (o : Option Record). IfSome o (IsRow (record_of d))) e (sound.rules.each (integed_key z))
 
 -- ---- what the records of a file say of another one
 
@@ -175,7 +168,7 @@ module _ (d : List Deed) (sound : IsSound d) (s t : List ℕ) (is_s : is_path s 
   of_right h = ap (λ b. taken_in || b) h ∙ or-true taken_in
 
   -- the record of a credit
-  credit_credits : (z : IntegedRecord) → record_of d (key_for z) ≡ Some (records.Integed z) → is_how z.how ≡ true → z.to_file ≡ printed t → z.from_file ≡ printed s
+  credit_credits : (z : IntegedRecord) → record_of d (integed_key z) ≡ Some (records.Integed z) → is_how z.how ≡ true → z.to_file ≡ printed t → z.from_file ≡ printed s
       → nat_le z.start_from n ≡ true → nat_le n z.end_from ≡ true → credited d s t n ≡ true
   credit_credits z there how to from first last =
       let k : Tells d z = tells d sound.paths z (row_is d z there) how in
@@ -192,7 +185,7 @@ module _ (d : List Deed) (sound : IsSound d) (s t : List ℕ) (is_s : is_path s 
       → IsCredited (record_of d) z how → credited d s t n ≡ true
   mirror_credits z how to from first last pair =
       let m : IntegedRecord = mirror z (how_word how) in
-      let there : record_of d (key_for m) ≡ Some (records.Integed m) = spelled d m pair.3 in
+      let there : record_of d (integed_key m) ≡ Some (records.Integed m) = spelled d m pair.3 in
       let number : z.end_from ≡ n = between z.start_from z.end_from n pair.1 first last in
       let at : IsMadeAt z.end_from z.change = made_at z.from_file z.end_from z.change from pair.2 in
       let k : Tells d m = tells d sound.paths m (row_is d m there) (own_word how) in
@@ -282,7 +275,7 @@ module _ (d : List Deed) (sound : IsSound d) (s t : List ℕ) (is_s : is_path s 
         let within = spanned z (same z.from_file (printed s)) (right-true (same (printed t) z.to_file && true) (option_map_or (is_within n) (span_of_row (printed s) (records.Integed z)) false) h) in
         record {
           said = z;
-          there = sym (has (key_for z) refl) ∙ in_there rows up (records.Integed z) there;
+          there = sym (has (integed_key z) refl) ∙ in_there rows up (records.Integed z) there;
           to = sym (same-is (printed t) z.to_file (left-true (same (printed t) z.to_file) true begun));
           from = same-is z.from_file (printed s) within.0;
           first = left-true (nat_le z.start_from n) (nat_le n z.end_from) within.1;
@@ -302,7 +295,7 @@ module _ (d : List Deed) (sound : IsSound d) (s t : List ℕ) (is_s : is_path s 
     told_passes : (z : Told) → list_any test rows ≡ true
     told_passes z =
         let row : Record = records.Integed z.said in
-        let there : In rows row = (found_in (is_at (key_for z.said)) rows row (has (key_for z.said) refl ∙ z.there)).0 in
+        let there : In rows row = (found_in (is_at (integed_key z.said)) rows row (has (integed_key z.said) refl ∙ z.there)).0 in
         any_of test rows row there
         ((λ i. (same (printed t) (z.to i) && true) && option_map_or (is_within n) (if same (z.from i) (printed s) then Some (span z.said) else None) false)
         ∙ (λ i. (same-self (printed t) i && true) && option_map_or (is_within n) (if same-self (printed s) i then Some (span z.said) else None) false)

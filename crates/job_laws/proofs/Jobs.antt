@@ -22,7 +22,7 @@ use Rattle.depot_rows.proofs.Keys.{same-is, same-self}
 use Rattle.depot_runs.specs.Folds.{command_of, closed_where, closes_by_submit, job_next, job_from, job_state}
 use Rattle.depot_facts.proofs.Decimals.{decimal_digits, parts_is}
 use Rattle.depot_facts.proofs.Fixes.{fix_in}
-use Rattle.depot_facts.proofs.Listed.{in_filter}
+use Rattle.depot_facts.proofs.Listed.{in_filter, any_of}
 use Rattle.step_forms.proofs.Placing.{at_place}
 use Rattle.step_forms.proofs.Staying.{form_stays, spec_after}
 use Rattle.step_forms.proofs.Whole.{from_own, step_saves}
@@ -33,15 +33,6 @@ use Rattle.job_laws.proofs.Putting.{fix_closes}
 use Rattle.job_laws.proofs.Submits.{of_submit, of_submit_change}
 
 -- ---- a change has a fix of a job
-
-any_in : {A : Type 0} (test : A → Bool) (xs : List A) (x : A) → In xs x → test x ≡ true → list_any test xs ≡ true
-any_in test [] x h e = absurd h
-any_in test (y ∷ ys) x (inl is) e = λ i. (ap test is ∙ e) i || list_any test ys
-any_in test (y ∷ ys) x (inr h) e = go (test y) (any_in test ys x h e)
-  where
-    go : (b : Bool) → list_any test ys ≡ true → (b || list_any test ys) ≡ true
-    go true f = refl
-    go false f = f
 
 any_out : {A : Type 0} (test : A → Bool) (xs : List A) → list_any test xs ≡ true → (x : A) × (In xs x × (test x ≡ true))
 any_out test [] e = absurd cc
@@ -65,7 +56,7 @@ module _ (d : List Deed) (named : AreNamed d) (n : ℕ) (name : List ℕ) where
           let of_change : is_of_change n form ≡ true =
           ap (λ (t : List ℕ). same t (decimal n)) (is.of_change ∙ sym parts.1) ∙ same-self (decimal n) in
           let mine : is_fix d name form ≡ true = ap (λ (t : List ℕ). same t name) (sym parts.0) ∙ same-self name in
-          any_in (is_fix d name) (fixes_of d n) form (fix_in d n (fix_name name n) form e h of_change) mine
+          any_of (is_fix d name) (fixes_of d n) form (fix_in d n (fix_name name n) form e h of_change) mine
 
   back : list_any (is_fix d name) (fixes_of d n) ≡ true → has_fix d n name ≡ true
   back h =

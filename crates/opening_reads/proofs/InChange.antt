@@ -35,12 +35,12 @@ use Rattle.depot_rows.proofs.Keys.{same-is, same-self, left-true, right-true}
 use Rattle.depot_rows.proofs.Locks.{opened-is}
 use Rattle.depot_rows.proofs.Sorted.{Below, Rise, insert_rises, path_order}
 use Rattle.depot_rows.proofs.Spelled.{at_path-here}
-use Rattle.depot_facts.proofs.Listed.{in_filter, in_map, in_filter_map}
+use Rattle.depot_facts.proofs.Listed.{in_filter, in_map, in_filter_map, map_in}
 use Rattle.depot_facts.proofs.OpenFiles.{in_openings, opened_path}
 use Rattle.opening_reads.specs.InChange.{is_in, opened_in, opening_at, opening_of_row}
 use Rattle.opening_reads.specs.Read.{opening_in_row, path_in_text}
 use Rattle.opening_reads.proofs.Opens.{path_is, row_opens}
-use Rattle.opening_reads.proofs.ToldRows.{IsTold, map_in, rows_told}
+use Rattle.opening_reads.proofs.ToldRows.{IsTold, rows_told}
 
 -- the paths that were opened rise
 paths_rise : (d : List Deed) → list_all has_paths d ≡ true → Rise (paths_of open_paths d)

@@ -7,6 +7,7 @@ use Rattle.std.specs.Option.{option_flatten, option_map_or, option_or}
 use Rattle.std.specs.Ordering.{is_lt, nat_cmp}
 use Rattle.std.specs.Cmp.Lexicographic.{slice_cmp}
 use Rattle.std.proofs.lemmas.Bool.{false≢true}
+use Rattle.std.proofs.lemmas.Option.{same_Some}
 use Rattle.depot_rows.specs.depot_path.Bytes.{same}
 use Rattle.depot_rows.specs.depot_path.Order.{path_cmp}
 use Rattle.depot_rows.specs.depot_path.OrderLaws.{paths_ties}
@@ -119,9 +120,6 @@ put_at old new at w up path before =
     go true = refl
     go false = refl
 
-some_is : {A : Type 0} {x y : A} → Some x ≡ Some y → x ≡ y
-some_is e = cc
-
 module _ (client : List ℕ) (d e : List Deed) (old new : OwnOpenings) (was : IsOwn old client d e) where
   opens : (o : DoneOpening) → is_of client (Open (opening_of o)) ≡ true → Updates path_cmp old.changed new.changed o.path (Some (Some o))
       → IsOwn new client d (Open (opening_of o) ∷ e)
@@ -154,20 +152,20 @@ module _ (client : List ℕ) (d e : List Deed) (old new : OwnOpenings) (was : Is
   none_of deed other is = absurd (false≢true (sym other ∙ is))
 
   pub own_deed : (done : Done) (deed : Deed) → IsDeed e done deed → BecomesBy done old.changed new.changed → is_of client deed ≡ true → IsOwn new client d (deed ∷ e)
-  own_deed (dones.Open o) deed one becomes = subst Noted (some_is one) (λ is. opens o is becomes)
-  own_deed (dones.Shut held) deed one becomes = subst Noted (some_is one) (λ is. shuts _ is becomes)
-  own_deed (dones.Got held rev) deed one becomes = subst Noted (some_is one) (λ is. stays_so _ is (λ path. refl) becomes)
-  own_deed (dones.Owe o) deed one becomes = subst Noted (some_is one) (λ is. stays_so _ is (λ path. refl) becomes)
-  own_deed (dones.Paid held from how) deed one becomes = subst Noted (some_is one) (λ is. stays_so _ is (λ path. refl) becomes)
-  own_deed (dones.Spec kind name form) deed one becomes = subst Noted (some_is one) (none_of _ refl)
-  own_deed (dones.Guard lines) deed one becomes = subst Noted (some_is one) (none_of _ refl)
-  own_deed (dones.Group name users) deed one becomes = subst Noted (some_is one) (none_of _ refl)
-  own_deed (dones.Count name value) deed one becomes = subst Noted (some_is one) (none_of _ refl)
-  own_deed (dones.Pend p) deed one becomes = subst Noted (some_is one) (none_of _ refl)
-  own_deed (dones.Drop n) deed one becomes = subst Noted (some_is one) (none_of _ refl)
-  own_deed (dones.Hold held) deed one becomes = subst Noted (some_is one) (none_of _ refl)
-  own_deed (dones.Free held) deed one becomes = subst Noted (some_is one) (none_of _ refl)
-  own_deed (dones.Tag label path rev) deed one becomes = subst Noted (some_is one) (none_of _ refl)
+  own_deed (dones.Open o) deed one becomes = subst Noted (same_Some _ _ one) (λ is. opens o is becomes)
+  own_deed (dones.Shut held) deed one becomes = subst Noted (same_Some _ _ one) (λ is. shuts _ is becomes)
+  own_deed (dones.Got held rev) deed one becomes = subst Noted (same_Some _ _ one) (λ is. stays_so _ is (λ path. refl) becomes)
+  own_deed (dones.Owe o) deed one becomes = subst Noted (same_Some _ _ one) (λ is. stays_so _ is (λ path. refl) becomes)
+  own_deed (dones.Paid held from how) deed one becomes = subst Noted (same_Some _ _ one) (λ is. stays_so _ is (λ path. refl) becomes)
+  own_deed (dones.Spec kind name form) deed one becomes = subst Noted (same_Some _ _ one) (none_of _ refl)
+  own_deed (dones.Guard lines) deed one becomes = subst Noted (same_Some _ _ one) (none_of _ refl)
+  own_deed (dones.Group name users) deed one becomes = subst Noted (same_Some _ _ one) (none_of _ refl)
+  own_deed (dones.Count name value) deed one becomes = subst Noted (same_Some _ _ one) (none_of _ refl)
+  own_deed (dones.Pend p) deed one becomes = subst Noted (same_Some _ _ one) (none_of _ refl)
+  own_deed (dones.Drop n) deed one becomes = subst Noted (same_Some _ _ one) (none_of _ refl)
+  own_deed (dones.Hold held) deed one becomes = subst Noted (same_Some _ _ one) (none_of _ refl)
+  own_deed (dones.Free held) deed one becomes = subst Noted (same_Some _ _ one) (none_of _ refl)
+  own_deed (dones.Tag label path rev) deed one becomes = subst Noted (same_Some _ _ one) (none_of _ refl)
   own_deed (dones.Land l) deed one becomes = subst Noted one.1 (none_of _ refl)
 
 -- ---- deeds one after another

@@ -21,11 +21,6 @@ use Rattle.row_reads.proofs.Alike.{unplaced_row}
 use Rattle.row_reads.proofs.GroupsListed.{kept_rise}
 use Rattle.depot_facts.proofs.Listed.{in_filter, found_in, filter_in}
 
-pub map_in : {A B : Type 0} (f : A → B) (xs : List A) (x : A) → In xs x → In (map f xs) (f x)
-map_in f [] x h = absurd h
-map_in f (y ∷ ys) x (inl e) = inl (ap f e)
-map_in f (y ∷ ys) x (inr h) = inr (map_in f ys x h)
-
 -- ---- two rising lists of the same rows are one
 
 above_in : (key : Key) (rows : List Record) → AllAbove key rows → (r : Record) → In rows r → key_cmp (key_of r) key ≡ Greater

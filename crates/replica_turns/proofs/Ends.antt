@@ -26,6 +26,7 @@ use Rattle.depot_rows.specs.depot_path.Path.{path_of, printed}
 use Rattle.depot_rows.specs.Standing.{HasRows, row_in}
 use Rattle.depot_rows.specs.table_changes.Changed.{AllFitIn, AllRows, FitsIn, changed_by, changed_in}
 use Rattle.depot_rows.specs.table_store.Rows.{FitsAt, changed_once, is_above, is_below, row_at}
+use Rattle.depot_facts.proofs.Listed.{get_left}
 use Rattle.recovery.specs.Holding.{spots_end}
 
 -- ---- rows that are put
@@ -79,14 +80,9 @@ ends_by rows (change ∷ changes) fits puts =
 
 -- ---- a revision stays
 
-at_front : {A : Type 0} (xs ys : List A) (n : ℕ) (x : A) → slice_get xs n ≡ Some x → slice_get (xs ++ ys) n ≡ Some x
-at_front [] ys n x at = absurd cc
-at_front (first ∷ xs) ys zero x at = at
-at_front (first ∷ xs) ys (suc n) x at = at_front xs ys n x at
-
 stays_once : (deed : Deed) (d : List Deed) (path : List ℕ) (n : ℕ) (r : Revision) → revision d path n ≡ Some r → revision (deed ∷ d) path n ≡ Some r
 stays_once deed d path zero r is = absurd cc
-stays_once (Land landing) d path (suc n) r is = at_front (revisions d path) (entries_at path landing) n r is
+stays_once (Land landing) d path (suc n) r is = get_left (revisions d path) (entries_at path landing) n r is
 stays_once _ d path (suc n) r is = is
 
 revision_stays : (deeds d : List Deed) (path : List ℕ) (n : ℕ) (r : Revision) → revision d path n ≡ Some r → revision (after d deeds) path n ≡ Some r

@@ -44,7 +44,7 @@ use Rattle.depot_facts.proofs.Fields.{value_back, other_value, own_value, has_va
 use Rattle.sound_form_steps.proofs.Fixing.{fixes_fit}
 use Rattle.depot_facts.proofs.Found.{saved_fix, saved_job, spelled, spec_names}
 use Rattle.sound_form_steps.proofs.Jobs.{job_shape, named_job}
-use Rattle.depot_facts.proofs.Listed.{filter_in, filter_map_in}
+use Rattle.depot_facts.proofs.Listed.{filter_in, filter_map_in, map_in}
 use Rattle.depot_facts.proofs.Members.{key_in}
 use Rattle.depot_rows.proofs.Entries.{In}
 use Rattle.depot_facts.proofs.Decimals.{decimal_digits, numeral_decimal, number_decimal, parts_is}
@@ -53,11 +53,6 @@ use Rattle.depot_facts.proofs.Steps.{NoneOf, not_refused, unless_sound, after_jo
 use Rattle.depot_facts.proofs.Values.{good_decimal}
 
 -- ---- lists
-
-in_map : {A B : Type 0} (f : A → B) (xs : List A) (x : A) → In xs x → In (map f xs) (f x)
-in_map f [] x h = absurd h
-in_map f (y ∷ ys) x (inl is) = inl (ap f is)
-in_map f (y ∷ ys) x (inr later) = inr (in_map f ys x later)
 
 all_in : (Q test : List ℕ → Bool) (xs ys : List (List ℕ)) → list_all Q xs ≡ true → ((x : List ℕ) → Q x ≡ true → test x ≡ true → In ys x) → AllIn (filter test xs) ys
 all_in Q test [] ys e h = tt
@@ -129,7 +124,7 @@ module _ (d : List Deed) (sound : IsSound d) (n : ℕ) (all : List (List ℕ))
           filter_in (is_of_change n) (fixes_on d) form (filter_in is_on (filter_map (spec d FixForm) (keys_of (spec_name FixForm) d)) form
           (filter_map_in (spec d FixForm) (keys_of (spec_name FixForm) d) (fix_name name n) form
           (key_in (spec_said FixForm (fix_name name n)) (spec_name FixForm) (fix_name name n) form (spec_names FixForm (fix_name name n) form) d e) e) on) of in
-          subst (λ (w : List ℕ). In (map fixed_job (fixes_of d n)) w) (sym parts.0) (in_map fixed_job (fixes_of d n) form there)
+          subst (λ (w : List ℕ). In (map fixed_job (fixes_of d n)) w) (sym parts.0) (map_in fixed_job (fixes_of d n) form there)
 
   -- the fixes of a depot on the way are those of the first, and more of this change for these jobs
   abbrev Within : List Deed → Type 0
