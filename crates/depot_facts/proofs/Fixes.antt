@@ -1,6 +1,6 @@
 -- The fixes of a change, and what a saved fix of a sound depot says.
 use Rattle.std.proofs.Common.{◌≡◌, ◌≤◌, ℕ, Bool, true, false, List, [], ◌∷◌, ◌++◌, Option, Some, None, refl, sym, ap, subst, ◌∙◌, arith}
-use Rattle.std.specs.Prelude.{◌&&◌, nat_le, IsSome, is_some, option_map, codes}
+use Rattle.std.specs.Prelude.{◌&&◌, nat_le, IsSome, is_some, option_map, codes, decimal}
 use Rattle.std.specs.List.{filter_map}
 use Rattle.std.proofs.lemmas.Bool.Decides.{nat_tests}
 use Rattle.depot_rows.specs.depot_path.Digits.{number_of}
@@ -9,7 +9,7 @@ use Rattle.depot_rows.specs.spec_form.Form.{FormValue}
 use Rattle.depot_rows.specs.spec_form.Printing.{printed_form}
 use Rattle.depot_rows.specs.spec_form.declared.shape.Shape.TheVariants.{Fix as FixShape}
 use Rattle.depot_rows.specs.depot_model.Deeds.{Deed, JobForm, FixForm}
-use Rattle.depot_rows.specs.depot_model.Fixes.{job, is_on, fixes_on, fixes_of}
+use Rattle.depot_rows.specs.depot_model.Fixes.{job, is_on, fixes_on, fixes_of, fix_name, fixed_job, has_fix}
 use Rattle.depot_rows.specs.depot_model.Latest.{keys_of, spec, spec_said, spec_name}
 use Rattle.depot_rows.specs.depot_model.Numbers.{top}
 use Rattle.depot_rows.specs.depot_model.Numerals.{is_numeral}
@@ -19,10 +19,10 @@ use Rattle.depot_rows.specs.depot_model.Shelves.{is_of_change}
 use Rattle.depot_rows.specs.depot_model.Values.{value_of}
 use Rattle.depot_rows.proofs.ChangeCounter.{top_value}
 use Rattle.depot_rows.proofs.Entries.{In}
-use Rattle.depot_rows.proofs.Keys.{left-true, right-true}
+use Rattle.depot_rows.proofs.Keys.{left-true, right-true, same-is}
 use Rattle.depot_facts.specs.Fields.{number_of_field}
 use Rattle.depot_facts.proofs.Found.{saved_fix, spec_names, spec_value}
-use Rattle.depot_facts.proofs.Listed.{filter_in, filter_map_in}
+use Rattle.depot_facts.proofs.Listed.{filter_in, filter_map_in, in_filter, in_filter_map}
 use Rattle.depot_facts.proofs.Members.{key_in}
 use Rattle.depot_facts.proofs.Tests.{le_true}
 
@@ -72,3 +72,26 @@ module _ (d : List Deed) (sound : IsSound d) where
           let value : top_in (record_of d) ≡ top d = top_value d in
           let one : number_of change ≡ number_of_field form (codes "Change") = ap number_of (v (codes "Change")) in
           omega (arith, low, value, one)
+
+  -- a fix of the change
+  pub record IsFixOf (n : ℕ) (form : FormValue) : Type 0 where
+    pub name : List ℕ
+    pub saved : spec d FixForm name ≡ Some form
+    pub on : is_on form ≡ true
+    pub of_change : value_of form (codes "Change") ≡ decimal n
+
+  pub fix_of : (n : ℕ) (form : FormValue) → In (fixes_of d n) form → IsFixOf n form
+  fix_of n form h =
+      let a = in_filter (is_of_change n) (fixes_on d) form h in
+      let b = in_filter is_on (filter_map (spec d FixForm) (keys_of (spec_name FixForm) d)) form a.0 in
+      let c = in_filter_map (spec d FixForm) (keys_of (spec_name FixForm) d) form b.0 in
+      record { name = c.0; saved = c.1.1; on = b.1; of_change = same-is (value_of form (codes "Change")) (decimal n) a.1 }
+
+  pub name_of : (n : ℕ) (form : FormValue) (f : IsFixOf n form) → f.name ≡ fix_name (fixed_job form) n
+  name_of n form f = (fix_tells f.name form f.saved).named ∙ ap (λ (t : List ℕ). fixed_job form ++ 0x20 ∷ t) f.of_change
+
+  pub fixed : (n : ℕ) (form : FormValue) → In (fixes_of d n) form → has_fix d n (fixed_job form) ≡ true
+  fixed n form h =
+      let f = fix_of n form h in
+      ap (λ (x : List ℕ). elim (spec d FixForm x) as (λ _. Bool) [ None ↦ false | Some g ↦ is_on g ]) (sym (name_of n form f))
+      ∙ ap (λ (o : Option FormValue). elim o as (λ _. Bool) [ None ↦ false | Some g ↦ is_on g ]) f.saved ∙ f.on

@@ -7,35 +7,24 @@ use Rattle.std.proofs.lemmas.Bool.Decides.{nat_tests}
 use Rattle.depot_rows.specs.depot_path.Bytes.{same}
 use Rattle.depot_rows.specs.depot_path.Digits.{number_of}
 use Rattle.depot_rows.specs.spec_form.Form.{FormValue, with_field, has_field}
-use Rattle.depot_rows.specs.spec_form.Printing.{printed_form}
-use Rattle.depot_rows.specs.spec_form.declared.shape.Shape.TheVariants.{Fix as FixShape}
 use Rattle.depot_rows.specs.depot_model.Deeds.{Deed, Spec, FixForm}
 use Rattle.depot_rows.specs.depot_model.Fixes.{job, fix_name, has_fix, is_on}
 use Rattle.depot_rows.specs.depot_model.Latest.{spec, spec_said, latest, when}
 use Rattle.depot_rows.specs.depot_model.Numbers.{top}
 use Rattle.depot_rows.specs.depot_model.Numerals.{is_numeral}
-use Rattle.depot_rows.specs.depot_model.Records.{record_of}
-use Rattle.depot_rows.specs.depot_model.Rules.{IsSound, IsFix, IsOneOf, IsSpelled, top_in, number_in}
+use Rattle.depot_rows.specs.depot_model.Rules.{IsSound, IsOneOf, IsSpelled}
 use Rattle.depot_rows.specs.depot_model.Step.{Step, nothing, after, all_of}
 use Rattle.depot_rows.specs.depot_model.Steps.Jobs.{unfix, unfix_job, fix_delete, distinct, is_change, no_job}
 use Rattle.depot_rows.specs.depot_model.declared.refusal.Refusal.TheVariants.{NoSuchChange}
 use Rattle.depot_rows.specs.depot_model.Step.{refuse_if}
-use Rattle.depot_rows.proofs.ChangeCounter.{top_value}
 use Rattle.depot_rows.proofs.Keys.{left-true, right-true}
 use Rattle.sound_deeds.specs.Keeping.{FixKeeps, FixesFit}
-use Rattle.sound_deeds.proofs.Parts.{loose_of, tied_of}
-use Rattle.depot_facts.proofs.Read.{spelled_reads, value_is, number_is}
-use Rattle.sound_deeds.proofs.Ties.{fix_said}
 use Rattle.sound_deeds.proofs.Whole.{one_sound}
 use Rattle.depot_facts.proofs.Fields.{other_value, own_value, has_valued, state_spelled}
-use Rattle.depot_facts.proofs.Found.{saved_fix, spelled}
-use Rattle.sound_file_steps.proofs.Known.{job_known}
+use Rattle.depot_facts.proofs.Found.{spelled}
 use Rattle.depot_facts.proofs.Steps.{AllOf, joined, unless_all}
-
--- the fixes of a sound depot fit
-pub fixes_fit : (d : List Deed) → IsSound d → FixesFit d
-fixes_fit d sound n jobs apart all =
-    (tied_of d sound).fixes_fit n jobs apart ((λ i. list_all (λ j. fix_said d (loose_of d sound) n j i) jobs) ∙ all)
+use Rattle.depot_facts.proofs.Fixes.{FixTells, fix_tells}
+use Rattle.sound_deeds.proofs.Ties.{fixes_fit}
 
 -- fixes that are off
 pub record IsOff (d : List Deed) (deed : Deed) : Type 0 where
@@ -99,8 +88,8 @@ offs_sound d (deed ∷ deeds) sound m =
 -- ---- fix -d
 
 module _ (d : List Deed) (sound : IsSound d) (n : ℕ) (name : List ℕ) (form : FormValue) (saved : spec d FixForm (fix_name name n) ≡ Some form) (on : is_on form ≡ true) where
-  fix : IsFix (record_of d) (fix_name name n) (printed_form form)
-  fix = saved_fix d sound (fix_name name n) form saved
+  fix : FixTells d sound (fix_name name n) form
+  fix = fix_tells d sound (fix_name name n) form saved
 
   is_form : IsSpelled FixForm form
   is_form = spelled d sound FixForm (fix_name name n) form saved
@@ -113,30 +102,23 @@ module _ (d : List Deed) (sound : IsSound d) (n : ℕ) (name : List ℕ) (form :
 
   off_meets : IsOff d (Spec FixForm (fix_name name n) off_form)
   off_meets =
-      let value = value_is FixShape form (spelled_reads FixForm form is_form) in
-      let number = number_is FixShape form (spelled_reads FixForm form is_form) (codes "Change") in
       let jobs = other_value (codes "State") (codes "off") form (codes "Job") refl in
       let changes = other_value (codes "State") (codes "off") form (codes "Change") refl in
       let states = own_value (codes "State") (codes "off") form has_state in
-      let tops = top_value d in
-      let fits : number_in FixShape (codes "Change") (printed_form form) ≤ top_in (record_of d) = le_is (right-true _ _ fix.change) in
       record {
         name = fix_name name n;
         form = off_form;
         is = refl;
         spelled = state_spelled form (codes "off") is_form has_state refl;
         keeps = record {
-          named = fix.named ∙ (λ i. (value (codes "Job") ∙ sym jobs) i ++ 0x20 ∷ (value (codes "Change") ∙ sym changes) i);
-          job = subst (λ (w : List ℕ). IsSome (job d w)) (value (codes "Job") ∙ sym jobs) (job_known d _ fix.job);
-          change_is = ap is_numeral (changes ∙ sym (value (codes "Change"))) ∙ left-true _ _ fix.change;
-          change_fits = subst (λ (m : ℕ). m ≤ top d) (number ∙ ap number_of (sym changes)) (subst (λ (m : ℕ). number_in FixShape (codes "Change") (printed_form form) ≤ m) tops fits);
+          named = fix.named ∙ (λ i. sym jobs i ++ 0x20 ∷ sym changes i);
+          job = subst (λ (w : List ℕ). IsSome (job d w)) (sym jobs) fix.job_there;
+          change_is = ap is_numeral changes ∙ fix.numeral;
+          change_fits = subst (λ (m : ℕ). m ≤ top d) (ap number_of (sym changes)) fix.fits;
           state = subst (λ (w : List ℕ). IsOneOf (codes "on" ∷ codes "off" ∷ []) w) (sym states) refl;
         };
         off = ap (λ (w : List ℕ). same w (codes "on")) states;
       }
-    where
-      le_is : {a b : ℕ} → nat_le a b ≡ true → a ≤ b
-      le_is h = grind (arith, nat_tests)
 
 module _ (d : List Deed) (sound : IsSound d) (n : ℕ) where
   job_off : (name : List ℕ) → AllOf (IsOff d) (unfix_job d n name).deeds

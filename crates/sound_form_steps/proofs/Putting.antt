@@ -41,7 +41,6 @@ use Rattle.sound_deeds.proofs.Whole.{one_sound}
 use Rattle.sound_form_steps.proofs.ChangeForms.{none_front, none_back}
 use Rattle.sound_form_steps.proofs.Counting.{AllIn, no_more, parted, distinct_kept}
 use Rattle.depot_facts.proofs.Fields.{value_back, other_value, own_value, has_valued, status_spelled}
-use Rattle.sound_form_steps.proofs.Fixing.{fixes_fit}
 use Rattle.depot_facts.proofs.Found.{saved_fix, saved_job, spelled, spec_names}
 use Rattle.sound_form_steps.proofs.Jobs.{job_shape, named_job}
 use Rattle.depot_facts.proofs.Listed.{filter_in, filter_map_in, map_in}
@@ -51,6 +50,7 @@ use Rattle.depot_facts.proofs.Decimals.{decimal_digits, numeral_decimal, number_
 use Rattle.depot_facts.proofs.Spelled.{good_name}
 use Rattle.depot_facts.proofs.Steps.{NoneOf, not_refused, unless_sound, after_joined}
 use Rattle.depot_facts.proofs.Values.{good_decimal}
+use Rattle.sound_deeds.proofs.Ties.{fixes_fit}
 
 -- ---- lists
 

@@ -29,11 +29,11 @@ use Rattle.depot_facts.proofs.Read.{spelled_reads, value_is}
 use Rattle.sound_deeds.proofs.Whole.{one_sound}
 use Rattle.depot_facts.proofs.Fields.{other_value, own_value, has_value, state_spelled, change_spelled, status_spelled}
 use Rattle.depot_facts.proofs.Decimals.{numeral_is, numeral_digits, number_decimal, numeral_decimal, value_digits, decimal_digits, parts_is}
-use Rattle.depot_facts.proofs.Fixes.{FixTells, fix_in, fix_tells}
+use Rattle.depot_facts.proofs.Fixes.{FixTells, fix_in, fix_tells, IsFixOf, fix_of, fixed}
 use Rattle.depot_facts.proofs.Found.{spelled}
-use Rattle.sound_landing.proofs.Fixing.{IsFixOf, fixes_fit, fix_of, fixed}
 use Rattle.sound_landing.proofs.Ordered.{after_both}
 use Rattle.sound_landing.proofs.Whole.{AllForms}
+use Rattle.sound_deeds.proofs.Ties.{fixes_fit}
 
 -- a text of a list that isn't empty isn't empty
 first_of : (words : List (List ℕ)) (text : List ℕ) → IsOneOf words text → (P : List ℕ → Type 0) → ((w : List ℕ) → In words w → P w) → P text

@@ -11,7 +11,6 @@ pub mod Leaving
 pub mod Submitted
 pub mod Refusing
 pub mod Whole
-pub mod Fixing
 pub mod Following
 pub mod Kept
 pub mod Follows
