@@ -1,8 +1,7 @@
 -- The fixes of a change, and what a saved fix of a sound depot says.
 use Rattle.std.proofs.Common.{◌≡◌, ◌≤◌, ℕ, Bool, true, false, List, [], ◌∷◌, ◌++◌, Option, Some, None, refl, sym, ap, subst, ◌∙◌, arith}
-use Rattle.std.specs.Prelude.{◌&&◌, nat_le, IsSome, is_some, option_map, codes, decimal}
+use Rattle.std.specs.Prelude.{nat_le, IsSome, is_some, option_map, codes, decimal}
 use Rattle.std.specs.List.{filter_map}
-use Rattle.std.proofs.lemmas.Bool.Decides.{nat_tests}
 use Rattle.depot_rows.specs.depot_path.Digits.{number_of}
 use Rattle.depot_rows.specs.db_records.declared.record.Record.TheVariants as records
 use Rattle.depot_rows.specs.spec_form.Form.{FormValue}

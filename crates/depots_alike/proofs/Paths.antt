@@ -1,10 +1,9 @@
 -- The lists of files of sound depots with the same rows.
 use Rattle.std.proofs.Common.{◌≡◌, ℕ, Bool, true, false, not, List, [], ◌∷◌, ◌++◌, length, map, Option, Some, None, refl, sym, ap, ◌∙◌}
-use Rattle.std.specs.Prelude.{◌&&◌, ◌||◌, ◌==◌, if◌then◌else◌, filter, flat_map, is_some, unwrap_or}
+use Rattle.std.specs.Prelude.{◌&&◌, ◌||◌, ◌==◌, if◌then◌else◌, filter, is_some, unwrap_or}
 use Rattle.std.specs.List.{list_all}
 use Rattle.std.specs.Option.{option_or, option_flatten}
 use Rattle.std.proofs.lemmas.Bool.{true≢false}
-use Rattle.std.proofs.lemmas.List.Folds.{list_all-append}
 use Rattle.depot_rows.specs.depot_path.Bytes.{same}
 use Rattle.depot_rows.specs.depot_path.Path.{is_path}
 use Rattle.depot_rows.specs.depot_model.Arguments.{paths_of, landed_paths, got_paths, open_paths, submitted, had, opened_by}

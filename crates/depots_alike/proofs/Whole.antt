@@ -1,5 +1,5 @@
 -- The step of a request over two sound depots with the same rows and contents.
-use Rattle.std.proofs.Common.{◌≡◌, Bool, not, List, [], ◌∷◌, ◌++◌, Result, Ok, Err, refl, subst}
+use Rattle.std.proofs.Common.{◌≡◌, not, List, [], ◌∷◌, ◌++◌, Result, Ok, Err, refl, subst}
 use Rattle.std.specs.Prelude.{◌&&◌, ◌||◌, codes, if◌then◌else◌, flat_map, unwrap_or}
 use Rattle.depot_rows.specs.depot_path.declared.revision.RevSpec.TheVariants.{Named}
 use Rattle.depot_rows.specs.depot_path.declared.revision.Wanted.{Wanted}

@@ -1,5 +1,5 @@
 -- The row of a revision, and what an entry is to say so that it becomes it.
-use Rattle.std.proofs.Common.{◌≡◌, ◌≤◌, ℕ, Bool, true, false, List, [], length, Option, Some, None, refl, sym, ap, subst, ◌∙◌, arith}
+use Rattle.std.proofs.Common.{◌≡◌, ◌≤◌, ℕ, Bool, true, false, List, [], Option, Some, None, refl, sym, ap, subst, ◌∙◌, arith}
 use Rattle.std.specs.Prelude.{◌&&◌, not, codes, bytes_eq, if◌then◌else◌, option_map, is_some, is_none, IsSome, IsSomeAnd}
 use Rattle.std.specs.Option.{option_map_or}
 use Rattle.depot_rows.specs.db_records.Record.{key_of}
@@ -7,7 +7,7 @@ use Rattle.depot_rows.specs.db_records.declared.key.Key.TheVariants as keys
 use Rattle.depot_rows.specs.db_records.declared.record.Record.{Record}
 use Rattle.depot_rows.specs.db_records.declared.record.Record.TheVariants as records
 use Rattle.depot_rows.specs.db_records.declared.rows.RevRecord.{RevRecord}
-use Rattle.depot_rows.specs.depot_model.Records.{unplaced, digest}
+use Rattle.depot_rows.specs.depot_model.Records.{unplaced}
 use Rattle.depot_rows.specs.depot_model.Revisions.{is_live_action}
 use Rattle.depot_rows.specs.depot_model.Rules.{Rows, IsRow, IsSubmitted, IsMadeIn, HasNone, HasRev, is_delete_word, change_of}
 use Rattle.depot_rows.specs.declared.deed.Action.{Action}

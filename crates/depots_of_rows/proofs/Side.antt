@@ -1,6 +1,6 @@
 -- What the deeds of a sound depot keep that its rows don't say.
 use Rattle.std.proofs.Common.{◌≡◌, ℕ, Bool, true, List, [], ◌∷◌, Option, refl}
-use Rattle.std.specs.Prelude.{◌&&◌, IsTrue, IfSome, is_ok}
+use Rattle.std.specs.Prelude.{IsTrue, IfSome, is_ok}
 use Rattle.std.specs.List.{list_all}
 use Rattle.depot_rows.specs.depot_path.Path.{is_path}
 use Rattle.depot_rows.specs.protect_table.Line.{table_of as protects_of}

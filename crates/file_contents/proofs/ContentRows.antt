@@ -1,7 +1,6 @@
 -- The row of a revision tells of its content.
 use Rattle.std.proofs.Common.{◌≡◌, ◌⊎◌, ℕ, zero, suc, Bool, true, false, List, [], ◌∷◌, length, Option, Some, None, inl, inr, refl, sym, ap, subst, ◌∙◌}
 use Rattle.std.specs.Prelude.{is_some, is_none, if◌then◌else◌, option_map, option_and_then}
-use Rattle.std.specs.List.{list_all}
 use Rattle.std.proofs.lemmas.Option.{same_Some}
 use Rattle.depot_rows.specs.depot_path.Path.{printed, is_path}
 use Rattle.depot_rows.proofs.depot_path.Paths.{prints_path}

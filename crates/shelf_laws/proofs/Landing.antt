@@ -1,5 +1,5 @@
 -- In a sound depot no file is kept in a change that landed.
-use Rattle.std.proofs.Common.{◌≡◌, ◌≤◌, ◌<◌, ◌^◌, ℕ, Bool, true, false, List, [], ◌∷◌, ◌++◌, length, Option, Some, None, inl, refl, sym, ap, subst, ◌∙◌, arith}
+use Rattle.std.proofs.Common.{◌≡◌, ◌≤◌, ◌<◌, ◌^◌, ℕ, Bool, true, false, List, [], ◌∷◌, length, Option, Some, None, inl, refl, sym, ap, subst, ◌∙◌, arith}
 use Rattle.std.specs.Prelude.{nat_lt, nat_le, is_some, IsSome, IsSomeAnd, codes, decimal, option_map, option_and_then}
 use Rattle.std.specs.List.{list_all}
 use Rattle.depot_model.specs.depot_path.Bytes.{same, is_digit}

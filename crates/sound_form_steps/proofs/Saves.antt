@@ -1,5 +1,5 @@
 -- Steps that save groups, clients, labels and protections.
-use Rattle.std.proofs.Common.{◌≡◌, ℕ, Bool, true, false, List, [], ◌∷◌, Result, Ok, Err, refl, ap}
+use Rattle.std.proofs.Common.{◌≡◌, ℕ, true, List, [], ◌∷◌, Result, Ok, Err, refl, ap}
 use Rattle.std.specs.Prelude.{◌-◌, not, codes, is_ok}
 use Rattle.std.specs.List.{list_all}
 use Rattle.depot_rows.specs.depot_path.Name.{is_name}

@@ -1,6 +1,6 @@
 -- The step that opens shelved files.
 use Rattle.std.proofs.Common.{◌≡◌, ◌≤◌, ℕ, Bool, true, false, List, [], ◌∷◌, ◌++◌, length, Option, Some, None, Result, Ok, Err, inl, inr, refl, sym, ap, subst, ◌∙◌, arith}
-use Rattle.std.specs.Prelude.{◌&&◌, codes, decimal, nat_lt, IfSome, is_some, is_none, unwrap_or, option_and_then, option_map, if◌then◌else◌}
+use Rattle.std.specs.Prelude.{codes, decimal, nat_lt, IfSome, is_some, is_none, unwrap_or, option_and_then, option_map, if◌then◌else◌}
 use Rattle.std.specs.List.{list_all}
 use Rattle.std.proofs.lemmas.Bool.Decides.{nat_tests}
 use Rattle.depot_rows.specs.depot_path.Bytes.{same, is_digit, is_among}

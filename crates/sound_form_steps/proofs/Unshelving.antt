@@ -1,11 +1,9 @@
 -- The step that takes shelved files away.
-use Rattle.std.proofs.Common.{◌≡◌, ◌≤◌, ◌<◌, ◌^◌, ℕ, Bool, true, false, List, [], ◌∷◌, ◌++◌, length, Option, Some, None, Ok, refl, sym, ap, subst, ◌∙◌, arith}
-use Rattle.std.specs.Prelude.{◌&&◌, ◌||◌, ◌==◌, not, codes, decimal, map, sum, nat_lt, is_some, if◌then◌else◌}
-use Rattle.std.specs.List.{list_any}
+use Rattle.std.proofs.Common.{◌≡◌, ◌≤◌, ◌<◌, ◌^◌, ℕ, Bool, true, false, List, [], ◌∷◌, ◌++◌, length, Option, Some, None, refl, sym, ap, subst, ◌∙◌, arith}
+use Rattle.std.specs.Prelude.{◌&&◌, ◌||◌, not, codes, decimal, map, sum, nat_lt, is_some}
 use Rattle.depot_rows.specs.depot_path.Bytes.{same}
 use Rattle.depot_rows.specs.depot_path.Digits.{number_of}
 use Rattle.depot_rows.specs.depot_path.Path.{printed, is_path}
-use Rattle.depot_rows.specs.depot_path.Utf8.{is_utf8}
 use Rattle.depot_rows.proofs.spec_form.Printed.{good_reads_back}
 use Rattle.depot_rows.specs.spec_form.Shapes.{fields_of}
 use Rattle.depot_rows.specs.spec_form.declared.shape.Shape.TheVariants.{Shelf}

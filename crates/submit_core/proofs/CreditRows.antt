@@ -1,9 +1,8 @@
 -- The credits of rows are those of the model's resolves.
-use Rattle.std.proofs.Common.{◌≡◌, ℕ, Bool, true, false, List, [], ◌∷◌, ◌++◌, map, Option, Some, None, Result, Ok, Err, inl, inr, refl, sym, ap, ◌∙◌, append_assoc}
+use Rattle.std.proofs.Common.{◌≡◌, ℕ, Bool, true, false, List, [], ◌∷◌, map, Option, Some, None, Result, Ok, Err, inl, inr, refl, sym, ap, ◌∙◌}
 use Rattle.std.specs.Prelude.{if◌then◌else◌, option_map}
 use Rattle.std.specs.List.{filter_map, cons_option, list_all}
 use Rattle.std.specs.Option.{option_map_or}
-use Rattle.std.proofs.lemmas.List.{append-nil}
 use Rattle.depot_rows.specs.depot_path.Bytes.{same}
 use Rattle.depot_rows.specs.depot_path.Path.{path_of, printed, is_path}
 use Rattle.depot_rows.specs.depot_path.declared.fault.PathFault.{PathFault}

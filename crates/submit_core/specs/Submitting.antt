@@ -1,5 +1,5 @@
 -- What a submit reads, and its refusals in their order (Command-Line Reference, "p4 submit"). The order is this project's own choice.
-use Rattle.std.specs.Prelude.{◌≡◌, ◌⊎◌, ℕ, ◌==◌, IsFalse, Some, List, [], ◌∷◌, ◌++◌, length, nat_lt, flat_map, Option}
+use Rattle.std.specs.Prelude.{ℕ, ◌==◌, List, [], ◌∷◌, ◌++◌, length, nat_lt, flat_map, Option}
 use Rattle.depot_rows.specs.db_records.declared.table.TableId.TheVariants as tables
 use Rattle.depot_rows.specs.table_changes.Changed.{AllRows}
 use Rattle.depot_rows.specs.depot_model.declared.request.Request.{Request}
