@@ -29,7 +29,7 @@ use Rattle.revision_reads.specs.History.{numbered_record, seen}
 use Rattle.named_files.specs.Asked.{IsAsker}
 use Rattle.named_files.specs.declared.asker.Asker.{Asker}
 use Rattle.named_files.specs.declared.listing.Listing.TheVariants.{Submitted}
-use Rattle.named_files.proofs.Rising.{Rise}
+use Rattle.depot_rows.specs.Rising.{Rise}
 use Rattle.named_files.proofs.MadeOnce.{some_is}
 use Rattle.named_files.proofs.RowsMade.{made_rows, text_made}
 use Rattle.named_files.proofs.Told.{files_rise}

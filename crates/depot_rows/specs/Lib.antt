@@ -3,6 +3,7 @@ pub mod Deed
 pub mod Effects
 pub mod Cut
 pub mod Needs
+pub mod Rising
 -- what stands below, for the crates above
 pub use Rattle.depot_model.specs.depot_path as depot_path
 pub use Rattle.depot_model.specs.db_records as db_records

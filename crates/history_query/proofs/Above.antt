@@ -31,7 +31,7 @@ use Rattle.depot_rows.proofs.Keys.{left-true, right-true, same-is}
 use Rattle.named_files.specs.Asked.{IsAsker, begins_at, is_begun}
 use Rattle.named_files.specs.declared.asker.Asker.{Asker}
 use Rattle.named_files.specs.declared.listing.Listing.TheVariants.{Submitted}
-use Rattle.named_files.proofs.Rising.{Rise}
+use Rattle.depot_rows.specs.Rising.{Rise}
 use Rattle.named_files.proofs.Told.{files_rise}
 use Rattle.revision_reads.specs.Shown.{shown_in}
 use Rattle.history_query.specs.Directories.{all_directories, all_fitting, begun_directories, directories_of, fitting_inserted}

@@ -40,8 +40,8 @@ use Rattle.named_files.specs.Asked.{IsAsker, begins_at}
 use Rattle.named_files.specs.Listed.{has_beginning, listed, listed_text, path_in_text, paths_in}
 use Rattle.named_files.specs.declared.asker.Asker.{Asker}
 use Rattle.named_files.specs.declared.listing.Listing.TheVariants.{Submitted}
-use Rattle.named_files.specs.Rising.{Below, Rise}
-use Rattle.named_files.proofs.Rising.{filter_rises}
+use Rattle.depot_rows.specs.Rising.{Below, Rise}
+use Rattle.depot_rows.proofs.Sorted.{filter_rises}
 use Rattle.named_files.proofs.Walking.{number_is, starts, text_cmp, text_is, text_self}
 use Rattle.history_query.specs.Directories.{all_fitting, directories_of, text_inserted}
 use Rattle.history_query.specs.Leaping.{IsDepth, behind_directory, behind_file, directory_at, files_from, first_begun, front_before, next_text, texts_at, texts_put}

@@ -11,7 +11,8 @@ use Rattle.named_files.specs.Beginnings.{AreApart, AreBehind, has_one, in_turn}
 use Rattle.named_files.specs.Listed.{has_beginning, listed, listing_table}
 use Rattle.named_files.specs.declared.listing.Listing.{Listing}
 use Rattle.named_files.proofs.Apart.{ahead_of_all}
-use Rattle.named_files.proofs.Rising.{Below, Rise, not_itself, path_order}
+use Rattle.depot_rows.proofs.Sorted.{not_itself, path_order}
+use Rattle.depot_rows.specs.Rising.{Below, Rise}
 use Rattle.named_files.proofs.RowsListed.{each_row, in_order, listed_rise, own_key}
 
 none_left : (f : List ℕ → Bool) (p : List ℕ) (files : List (List ℕ)) → Below p files → ((q : List ℕ) → f q ≡ true → path_cmp q p ≡ Less) → filter f files ≡ []

@@ -24,7 +24,9 @@ use Rattle.named_files.specs.Asked.{is_placed}
 use Rattle.named_files.specs.Listed.{listed, listing_table, own_key}
 use Rattle.named_files.specs.declared.asker.Asker.{Asker}
 use Rattle.named_files.specs.declared.listing.Listing.{Listing}
-use Rattle.named_files.proofs.Rising.{Rise, filter_rises, in_filter, in_inserted, insert_rises, one_list}
+use Rattle.depot_rows.proofs.Sorted.{filter_rises, insert_rises}
+use Rattle.depot_rows.specs.Rising.{Rise}
+use Rattle.named_files.proofs.Rising.{in_filter, in_inserted, one_list}
 use Rattle.named_files.proofs.RowsListed.{each_row, in_listed, in_order, listed_rise}
 
 -- ---- what a pattern without wildcards fits

@@ -45,8 +45,9 @@ use Rattle.named_files.specs.Beginnings.{AreApart, has_one}
 use Rattle.named_files.specs.Listed.{has_beginning, is_in_front, path_in_text}
 use Rattle.named_files.specs.declared.listing.Listing.TheVariants.{OpenedBy}
 use Rattle.named_files.proofs.Joining.{joined}
-use Rattle.named_files.proofs.Rising as paths
-use Rattle.named_files.proofs.Rising.{filter_rises, in_filter, one_list, told_rise}
+use Rattle.depot_rows.specs.Rising as paths
+use Rattle.depot_rows.proofs.Sorted.{filter_rises}
+use Rattle.named_files.proofs.Rising.{in_filter, one_list, told_rise}
 use Rattle.named_files.proofs.RowsListed.{Single, in_text, same_turned, single_text}
 use Rattle.named_files.proofs.Told.{open_are_paths, open_told}
 

@@ -27,7 +27,8 @@ use Rattle.named_files.specs.Listed.{listed, listed_text, listing_table, path_in
 pub use Rattle.named_files.specs.Listed.{own_key}
 use Rattle.named_files.specs.declared.listing.Listing.{Listing}
 use Rattle.named_files.specs.declared.listing.Listing.TheVariants.{Had, OpenedBy, Submitted}
-use Rattle.named_files.proofs.Rising.{Below, Rise, turned}
+use Rattle.depot_rows.specs.Rising.{Below, Rise}
+use Rattle.named_files.proofs.Rising.{turned}
 use Rattle.named_files.proofs.Walking.{text_self}
 
 both_ways : (a b : Bool) → (a ≡ true → b ≡ true) → (b ≡ true → a ≡ true) → a ≡ b

@@ -37,7 +37,8 @@ use Rattle.revision_reads.proofs.FileRows.{rev_row}
 use Rattle.revision_reads.specs.History.{numbered_record}
 use Rattle.named_files.specs.declared.listing.Listing.TheVariants.{Submitted}
 use Rattle.named_files.specs.Listed.{path_in_text, path_revised}
-use Rattle.named_files.proofs.Rising.{Below, Rise, path_order}
+use Rattle.depot_rows.proofs.Sorted.{path_order}
+use Rattle.depot_rows.specs.Rising.{Below, Rise}
 use Rattle.named_files.proofs.MadeOnce.{made_found, made_once, some_is}
 use Rattle.named_files.proofs.RowsListed.{each_row, in_listed, in_order, own_key, single_text}
 use Rattle.named_files.proofs.Told.{files_rise, files_told}

@@ -27,7 +27,9 @@ use Rattle.named_files.specs.Listed.{files_of, listed, listing_table}
 use Rattle.named_files.specs.declared.listing.Listing.{Listing}
 use Rattle.named_files.specs.declared.listing.Listing.TheVariants.{Had, OpenedBy, Submitted}
 use Rattle.named_files.proofs.RowsListed.{own_key, each_row, in_listed, in_order, listed_rise, same_turned}
-use Rattle.named_files.proofs.Rising.{Rise, filter_rises, in_all_inserted, in_filter, in_inserted, one_list, told_rise}
+use Rattle.depot_rows.proofs.Sorted.{filter_rises}
+use Rattle.depot_rows.specs.Rising.{Rise}
+use Rattle.named_files.proofs.Rising.{in_all_inserted, in_filter, in_inserted, one_list, told_rise}
 
 or_right : (a b : Bool) → b ≡ true → (a || b) ≡ true
 or_right true b e = refl

@@ -3,5 +3,4 @@ pub mod Asked
 pub mod Beginnings
 pub mod HeadRows
 pub mod Listed
-pub mod Rising
 pub mod Sets

@@ -9,7 +9,7 @@ ghost use Rattle.depot_rows.specs.depot_model.Sorted.{path_inserted};
 ghost use Rattle.depot_rows.specs.table_changes.Changed.{AllRows, rows_of};
 ghost use Rattle.named_files.specs.Asked.{is_placed};
 ghost use Rattle.named_files.specs.Listed.{listed, listing_table};
-ghost use Rattle.named_files.specs.Rising.{Rise};
+ghost use Rattle.depot_rows.specs.Rising.{Rise};
 
 use crate::asker::Asker;
 use crate::listing::Listing;

@@ -33,7 +33,8 @@ use Rattle.depot_rows.specs.Standing.{unplaced_at}
 use Rattle.depot_rows.proofs.Entries.{In}
 use Rattle.depot_rows.proofs.Keys.{same-is, same-self, left-true, right-true}
 use Rattle.depot_rows.proofs.Locks.{opened-is}
-use Rattle.depot_rows.proofs.Sorted.{Below, Rise, insert_rises, path_order}
+use Rattle.depot_rows.proofs.Sorted.{insert_rises, path_order}
+use Rattle.depot_rows.specs.Rising.{Below, Rise}
 use Rattle.depot_rows.proofs.Spelled.{at_path-here}
 use Rattle.depot_facts.proofs.Listed.{in_filter, in_map, in_filter_map, map_in}
 use Rattle.depot_facts.proofs.OpenFiles.{in_openings, opened_path}

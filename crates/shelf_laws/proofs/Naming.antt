@@ -29,7 +29,8 @@ use Rattle.depot_model.specs.declared.refusal.Refusal.{Refusal}
 use Rattle.depot_model.specs.declared.refusal.Refusal.TheVariants.{AlreadyOpen, NotInView}
 use Rattle.depot_model.specs.declared.request.Caller.{Caller}
 use Rattle.depot_rows.proofs.Keys.{same-is, same-self}
-use Rattle.depot_rows.proofs.Sorted.{Below, Rise, insert_rises, path_order}
+use Rattle.depot_rows.proofs.Sorted.{insert_rises, path_order}
+use Rattle.depot_rows.specs.Rising.{Below, Rise}
 use Rattle.shelf_laws.specs.Unshelving.{IsAnswerIn, OpensNot, RefusesOrAnswersEach, arguments_of, is_named}
 use Rattle.step_forms.proofs.Parts.{good_unless, good_within}
 

@@ -20,7 +20,8 @@ use Rattle.depot_rows.specs.depot_model.Rules.{IsSound}
 use Rattle.depot_rows.specs.depot_model.Shelves.{is_kept, kept, kept_paths, shelf_name, shelf_paths}
 use Rattle.depot_rows.specs.Standing.{unplaced_at}
 use Rattle.depot_rows.proofs.Keys.{same-self}
-use Rattle.named_files.proofs.Rising.{filter_rises, in_filter, one_list, told_rise}
+use Rattle.depot_rows.proofs.Sorted.{filter_rises}
+use Rattle.named_files.proofs.Rising.{in_filter, one_list, told_rise}
 use Rattle.row_reads.proofs.FormsRead.{form_there}
 use Rattle.depot_facts.proofs.Found.{shelf_among}
 use Rattle.shelf_ops.specs.ShelfRows.{beginning, shelf_files}

@@ -22,7 +22,8 @@ use Rattle.depot_rows.specs.db_records.Record.{key_of, table_of}
 use Rattle.depot_rows.specs.table_store.Rows.{is_at, row_at, AllAbove, AllOfTable, IsRising}
 use Rattle.depot_rows.proofs.Keys.{at-is, at-self, same-is, same-self}
 use Rattle.named_files.specs.Listed.{paths_in}
-use Rattle.named_files.proofs.Rising.{Below, Rise, turned}
+use Rattle.depot_rows.specs.Rising.{Below, Rise}
+use Rattle.named_files.proofs.Rising.{turned}
 use Rattle.named_files.proofs.RowsListed.{Single, in_text, single_text}
 use Rattle.named_files.proofs.Walking.{starts, text_cmp, text_self}
 use Rattle.shelf_ops.specs.ShelfRows.{behind, is_of_shelf, shelf_file, shelf_files, shelf_text}

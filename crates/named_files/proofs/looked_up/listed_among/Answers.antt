@@ -1,7 +1,7 @@
 use Rattle.std.proofs.Common.{ℕ, List, refl, sym, ap, subst, ◌∙◌, rules}
 use Rattle.depot_rows.specs.depot_model.Arguments.{is_in}
 use Rattle.depot_rows.specs.table_changes.Changed.{rows_of}
-use Rattle.named_files.specs.Rising.{Rise}
+use Rattle.depot_rows.specs.Rising.{Rise}
 use Rattle.named_files.proofs.LookedUp.{known, looked_on, none_left, rises_on}
 use Rattle.named_files.proofs.looked_up.listed_among.Goals as goal
 

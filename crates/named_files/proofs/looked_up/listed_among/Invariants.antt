@@ -1,6 +1,6 @@
 use Rattle.std.proofs.Common.{◌≡◌, ℕ, Bool, List, [], length}
 use Rattle.depot_rows.specs.table_changes.Changed.{rows_of}
-use Rattle.named_files.specs.Rising.{Rise}
+use Rattle.depot_rows.specs.Rising.{Rise}
 use Rattle.named_files.proofs.LookedUp.{known}
 use Rattle.named_files.proofs.looked_up.listed_among.Given as goal
 

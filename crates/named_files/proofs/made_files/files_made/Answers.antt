@@ -11,7 +11,8 @@ use Rattle.named_files.specs.Beginnings.{has_one, in_turn}
 use Rattle.named_files.specs.Listed.{path_revised}
 use Rattle.named_files.specs.declared.listing.Listing.TheVariants.{Submitted}
 use Rattle.named_files.proofs.Joining.{joined}
-use Rattle.named_files.proofs.Rising.{Rise, filter_rises}
+use Rattle.depot_rows.proofs.Sorted.{filter_rises}
+use Rattle.depot_rows.specs.Rising.{Rise}
 use Rattle.named_files.proofs.Sifting.{sifted}
 use Rattle.named_files.proofs.Told.{files_rise}
 use Rattle.named_files.proofs.made_files.files_made.Goals as goal

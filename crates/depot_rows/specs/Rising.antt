@@ -1,8 +1,8 @@
 -- Lists of paths in their order, each once.
 use Rattle.std.specs.Prelude.{◌≡◌, ℕ, true, List, [], ◌∷◌}
 use Rattle.std.specs.declared.cmp.Ordering.TheVariants.{Less}
-use Rattle.depot_rows.specs.depot_path.Order.{path_cmp}
-use Rattle.depot_rows.specs.depot_path.Path.{is_path}
+use Rattle.depot_model.specs.depot_path.Order.{path_cmp}
+use Rattle.depot_model.specs.depot_path.Path.{is_path}
 
 -- below all paths of a list
 abbrev pub Below : List ℕ → List (List ℕ) → Type 0
