@@ -11,7 +11,7 @@ use Rattle.depot_model.specs.db_records.declared.table.TableId.TheVariants.{Coun
 use Rattle.order_words.specs.Lanes.{has_lane, is_among}
 use Rattle.table_changes.specs.table_store.Rows.{TableRows}
 use Rattle.locked_tables.specs.Held.{AreAmong, lane_next, lanes_next, table_held}
-use Rattle.locked_tables.specs.Placing.{lanes_held}
+use Rattle.locked_tables.specs.Placing.{AreOfTables, lanes_held}
 use Rattle.locked_tables.specs.Taken.{archive_lane, journal_lane, party_lane}
 use Rattle.locked_tables.specs.declared.held_table.HeldTable.{HeldTable}
 
@@ -93,10 +93,6 @@ small Rev = omega arith
 -- a lane behind those of the tables is that of none
 not_of_table : (lane : ℕ) (table : TableId) → archive_lane ≤ lane → (lane == table_number table) ≡ false
 not_of_table lane table past = let less = small table in ne_eqb lane (table_number table) (λ e. absurd (omega arith))
-
--- no lane behind those of the tables is among these
-abbrev pub AreOfTables : List ℕ → Type 0
-AreOfTables lanes = (lane : ℕ) → archive_lane ≤ lane → is_among lane lanes ≡ false
 
 module _ {N : Type 0} where
   not_next : (lane : ℕ) (held : List (HeldTable N)) → archive_lane ≤ lane → is_among lane (lanes_next held) ≡ false

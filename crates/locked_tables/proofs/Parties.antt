@@ -8,7 +8,8 @@ use Rattle.order_words.specs.Seats.{Run}
 use Rattle.locked_tables.specs.Known.{KnowsLane}
 use Rattle.locked_tables.specs.Taken.{IsOwn, IsParty, TouchesItsParty, lanes_of, of_party, party_lane}
 use Rattle.locked_tables.specs.declared.taken.Taken.{Taken}
-use Rattle.locked_tables.proofs.Lanes.{AreOfTables, IsBetween, lane_of_party, past_between}
+use Rattle.locked_tables.specs.Placing.{AreOfTables}
+use Rattle.locked_tables.proofs.Lanes.{IsBetween, lane_of_party, past_between}
 use Rattle.locked_tables.proofs.Rows.{none_behind, past_known}
 
 -- those behind some are among all

@@ -3,30 +3,26 @@ use Rattle.std.proofs.Common.{◌≡◌, ◌≤◌, ◌<◌, ◌++◌, ℕ, Bool
 use Rattle.std.specs.List.{AllByRecursion}
 use Rattle.std.proofs.SliceLists.{all_by_recursion_push}
 use Rattle.depot_model.specs.db_records.declared.table.TableId.{TableId}
-use Rattle.order_words.specs.Lanes.{has_lane, is_among}
+use Rattle.order_words.specs.Lanes.{has_lane}
 use Rattle.order_words.specs.Seats.{OrderState, Run}
 use Rattle.table_changes.specs.Changed.{AllRows, changed_by}
 use Rattle.locked_tables.specs.Held.{OnlyChange}
 use Rattle.locked_tables.specs.Known.{HasPlaceLeft, PartyKnown}
-use Rattle.locked_tables.specs.Placing.{IsPlaced, lanes_held}
-use Rattle.locked_tables.specs.Taken.{IsOwn, IsParty, TouchesItsParty, TouchesItsTables, archive_lane, journal_lane, party_lane, rows_after}
+use Rattle.locked_tables.specs.Placing.{IsPlaced, TouchesLanes, lanes_held}
+use Rattle.locked_tables.specs.Taken.{IsOwn, TouchesItsParty, TouchesItsTables, archive_lane, journal_lane, party_lane, rows_after}
 use Rattle.locked_tables.specs.declared.taken.Taken.{Taken}
 use Rattle.locked_tables.proofs.Announced.{touches_its}
-use Rattle.locked_tables.proofs.Lanes.{AreOfTables, among_front, archive_among, between_held, journal_among, not_last}
+use Rattle.locked_tables.proofs.Lanes.{among_front, archive_among, between_held, journal_among, not_last}
 use Rattle.locked_tables.proofs.Parties.{touches_party}
 use Rattle.locked_tables.proofs.Rows.{rows_behind_all}
 use Rattle.locked_tables.proofs.Room.{count_of, left_behind, within_kept}
 
--- the lanes that an entry touches: of those of the archive and of the journal the ones that are held, that of a party of the run, and those of tables
-pub record TouchesLanes (run : Run) (entry : Taken) (archive journal : Bool) (party : ℕ) (tables : List ℕ) : Type 0 where
-  pub of_run : IsParty run party
-  pub below : AreOfTables tables
-  pub are : (lane : ℕ) → has_lane entry.lanes lane ≡ is_among lane (lanes_held archive journal ++ party_lane party ∷ tables)
-
-module _ (run : Run) (entry : Taken) (archive journal : Bool) (party : ℕ) (tables : List ℕ) (touches : TouchesLanes run entry archive journal party tables) where
+module _ {run : Run} {entry : Taken} {archive journal : Bool} {party : ℕ} {tables : List ℕ} (touches : TouchesLanes run entry archive journal party tables) where
+  -- the archive's lane is touched just where it is held
   pub of_archive : has_lane entry.lanes archive_lane ≡ archive
   of_archive = touches.are archive_lane ∙ (among_front archive_lane (lanes_held archive journal) party tables (omega arith, omega arith) touches.of_run.low touches.below ∙ archive_among archive journal)
 
+  -- so is the journal's
   pub of_journal : has_lane entry.lanes journal_lane ≡ journal
   of_journal = touches.are journal_lane ∙ (among_front journal_lane (lanes_held archive journal) party tables (omega arith, omega arith) touches.of_run.low touches.below ∙ journal_among archive journal)
 

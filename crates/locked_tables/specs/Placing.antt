@@ -1,11 +1,12 @@
 -- How an entry gets its place. This project's own choice.
-use Rattle.std.specs.Prelude.{◌≡◌, ◌<◌, ◌-◌, ◌^◌, ◌++◌, ℕ, Bool, true, false, List, [], ◌∷◌, length}
+use Rattle.std.specs.Prelude.{◌≡◌, ◌≤◌, ◌<◌, ◌-◌, ◌^◌, ◌++◌, ℕ, Bool, true, false, List, [], ◌∷◌, length}
 use Rattle.std.specs.List.{AllByRecursion}
+use Rattle.order_words.specs.Lanes.{has_lane, is_among}
 use Rattle.order_words.specs.Seats.{Run, OrderState}
 use Rattle.table_changes.specs.Changed.{AllRows}
 use Rattle.locked_tables.specs.Held.{AllNext}
 use Rattle.locked_tables.specs.Known.{HasPlaceLeft, PartyKnown}
-use Rattle.locked_tables.specs.Taken.{IsOwn, IsParty, TouchesItsParty, archive_lane, journal_lane}
+use Rattle.locked_tables.specs.Taken.{IsOwn, IsParty, TouchesItsParty, archive_lane, journal_lane, party_lane}
 use Rattle.locked_tables.specs.declared.held_table.HeldTable.{HeldTable}
 use Rattle.locked_tables.specs.declared.taken.Taken.{Taken}
 
@@ -17,6 +18,16 @@ lane_where false lane = []
 -- of the archive's lane and the journal's those that are held
 abbrev pub lanes_held : Bool → Bool → List ℕ
 lanes_held archive journal = lane_where archive archive_lane ++ lane_where journal journal_lane
+
+-- no lane behind those of the tables is among these
+abbrev pub AreOfTables : List ℕ → Type 0
+AreOfTables lanes = (lane : ℕ) → archive_lane ≤ lane → is_among lane lanes ≡ false
+
+-- the lanes that an entry touches: of those of the archive and of the journal the ones that are held, that of a party of the run, and those of tables
+pub record TouchesLanes (run : Run) (entry : Taken) (archive journal : Bool) (party : ℕ) (tables : List ℕ) : Type 0 where
+  pub of_run : IsParty run party
+  pub below : AreOfTables tables
+  pub are : (lane : ℕ) → has_lane entry.lanes lane ≡ is_among lane (lanes_held archive journal ++ party_lane party ∷ tables)
 
 module _ {N : Type 0} where
   -- An entry of a party can be given the next place: the party may have one more, and each version that is to follow is its table after the changes.

@@ -4,17 +4,15 @@ ghost use Rattle.std.specs.List.{AllByRecursion};
 ghost use mathlib.Core.List.{IsPrefix};
 ghost use Rattle.depot_model.specs.db_records.declared.table.TableId.{TableId};
 ghost use Rattle.table_changes.specs.Changed.{changed_by};
-ghost use Rattle.order_words.specs.Lanes.{has_lane, is_among};
 ghost use Rattle.locked_tables.specs.Held.{AllHaveLearnt, AllNext, AllStill, OnlyChange, lanes_next};
 ghost use Rattle.locked_tables.specs.Known.{GoesOnWithout, HasPlaceLeft, IsStill, all_places, is_touched};
-ghost use Rattle.locked_tables.specs.Placing.{lanes_held};
-ghost use Rattle.locked_tables.specs.Taken.{archive_lane, changes_of, end_after, journal_lane, of_party, party_lane, place_of, rows_after, IsOwn, IsParty};
+ghost use Rattle.locked_tables.specs.Placing.{TouchesLanes};
+ghost use Rattle.locked_tables.specs.Taken.{archive_lane, changes_of, end_after, journal_lane, of_party, place_of, rows_after, IsOwn, IsParty};
 
 use crate::held_lanes::{ArchiveLane, JournalLane};
 use crate::held_table::HeldTable;
 use crate::locked_archive::LockedArchive;
 use crate::locked_journal::LockedJournal;
-use crate::locked_table::LockedTable;
 use crate::naming::Naming;
 use crate::party_pass::PartyPass;
 use crate::peek::Peek;
@@ -73,15 +71,6 @@ impl<N: Naming> PlacedOrder<N> {
         })
     }
 
-    /// What a party knows begins the order.
-    pub fn hear(&mut self, words: &OrderWords<N>, pass: &mut PartyPass<N>)
-        ensures same { (self.new ≡ self.old) × (pass.new ≡ pass.old) }
-        ensures begins { IsPrefix pass.old.list self.old }
-    {
-        let known = words.orders.lane_note(&mut pass.seat);
-        words.orders.order_meet(&mut self.seat, known);
-    }
-
     /// The party learns all places so far. Each of its own was known to it.
     pub fn tell(&mut self, words: &OrderWords<N>, pass: &mut PartyPass<N>)
         ensures same { self.new ≡ self.old }
@@ -123,17 +112,6 @@ impl<N: Naming> PlacedOrder<N> {
         self.touched[version.table().number()] <= places
     }
 
-    /// A locked table learns the whole order, and is after it as it was after the places that it
-    /// knew.
-    pub fn learn(&mut self, words: &OrderWords<N>, table: &mut LockedTable<N>)
-        ensures same { self.new ≡ self.old }
-        ensures learnt { table.new ≡ record table.old { list = self.old } }
-        ensures begins { IsPrefix table.old.list self.old }
-        ensures still { IsStill N.rows self.old table.old }
-    {
-        words.orders.learn(&mut self.seat, &mut table.seat);
-    }
-
     /// The held tables learn the whole order. Each is after it as it was after the places that it
     /// knew.
     pub fn learn_held(&mut self, words: &OrderWords<N>, held: &mut [HeldTable<'_, N>])
@@ -149,7 +127,6 @@ impl<N: Naming> PlacedOrder<N> {
     pub fn learn_archive(&mut self, words: &OrderWords<N>, archive: &mut LockedArchive<N>)
         ensures same { self.new ≡ self.old }
         ensures learnt { archive.new ≡ self.old }
-        ensures begins { IsPrefix archive.old self.old }
         ensures behind { GoesOnWithout archive_lane archive.old self.old }
         ensures still { end_after N.end self.old ≡ end_after N.end archive.old }
     {
@@ -160,7 +137,6 @@ impl<N: Naming> PlacedOrder<N> {
     pub fn learn_journal(&mut self, words: &OrderWords<N>, journal: &mut LockedJournal<N>)
         ensures same { self.new ≡ self.old }
         ensures learnt { journal.new ≡ self.old }
-        ensures begins { IsPrefix journal.old self.old }
         ensures behind { GoesOnWithout journal_lane journal.old self.old }
     {
         words.orders.learn(&mut self.seat, &mut journal.seat);
@@ -185,9 +161,7 @@ impl<N: Naming> PlacedOrder<N> {
         requires next { AllNext N.rows taken.changes held.old }
         requires only { OnlyChange taken.changes (lanes_next held.old) }
         ensures placed { self.new ≡ self.old ++ record taken { lanes = result } ∷ [] }
-        ensures lanes { (lane : ℕ) → has_lane result lane ≡ is_among lane (lanes_held A.is_held J.is_held ++ party_lane pass.old.party ∷ lanes_next held.old) }
-        ensures of_archive { has_lane result archive_lane ≡ A.is_held }
-        ensures of_journal { has_lane result journal_lane ≡ J.is_held }
+        ensures touches { TouchesLanes N.run (record taken { lanes = result }) A.is_held J.is_held pass.old.party (lanes_next held.old) }
         ensures archive { A.Learns self.old self.new archive.old archive.new }
         ensures journal { J.Learns self.old self.new journal.old journal.new }
         ensures rows { (table : TableId) → rows_after N.rows self.new table ≡ changed_by (rows_after N.rows self.old) taken.changes table }

@@ -35,7 +35,7 @@ IsAtOrder order archive = IfSome archive (λ guard. mutex_guard_value guard ≡ 
 module _ {N : Type 0} where
   -- Room is made for what a command changes behind an order: the versions that are to follow, and the tables after the changes, twice.
   pub record IsRoomFor (rows : AllRows) (order : List Taken) (told : Told) (room : Room N) : Type 0 where
-    pub prepared : IsPrepared rows told.changes room.prepared
+    pub prepared : IsPrepared rows told.changes room.prepared.items
     pub after : (table : TableId) → rows_of room.after table ≡ changed_by (rows_after rows order) told.changes table
     pub shown : rows_of room.shown ≡ rows_of room.after
 

@@ -12,9 +12,8 @@ ghost use Rattle.table_locks.specs.Prepared.{IsPrepared};
 use crate::common::CommonDepot;
 use crate::serving::Serving;
 use depot_rows::tables::Tables;
-use locked_tables::{ArchiveLane, LockedJournal, OrderWords, PartyPass, Taken};
+use locked_tables::{ArchiveLane, HeldTable, LockedJournal, OrderWords, PartyPass, Taken};
 use outside_api::Disk;
-use table_locks::Prepared;
 
 /// The tables that are shown after a place: others, where no disk failed at it.
 fn show(tables: &mut Tables, shown: Tables, fault: bool)
@@ -37,7 +36,7 @@ impl<D: Disk, N: Serving> CommonDepot<D, N> {
         words: &OrderWords<N>,
         archive: &mut A,
         lane: &mut LockedJournal<N>,
-        prepared: Prepared<'_, N>,
+        prepared: Vec<HeldTable<'_, N>>,
         shown: Tables,
         pass: &mut PartyPass<N>,
         taken: Taken,
@@ -45,7 +44,7 @@ impl<D: Disk, N: Serving> CommonDepot<D, N> {
         requires room { HasPlaceLeft N.places pass.old }
         requires fits { A.is_held ≡ true → taken.end ≤ 2 ^ 63 - 1 }
         requires party { taken.request.party ≡ pass.old.party }
-        requires prepared { taken.fault ≡ false → IsPrepared N.rows taken.changes prepared }
+        requires prepared { taken.fault ≡ false → IsPrepared N.rows taken.changes prepared.items }
         requires unchanged { taken.fault ≡ true → taken.changes ≡ [] }
         requires shown { taken.fault ≡ false → (table : TableId) → rows_of shown table ≡ changed_by (rows_after N.rows lane.old) taken.changes table }
         // Behind each order that goes on quietly some tables and journal have run it with this place.
@@ -62,7 +61,13 @@ impl<D: Disk, N: Serving> CommonDepot<D, N> {
         ensures own { IsOwn pass.old.party pass.old.list self.old self.new }
     {
         let fault = taken.fault;
-        let lanes = prepared.place(words, &mut self.order, archive, lane, pass, taken);
+        let mut held = prepared;
+        if fault {
+            held.clear();
+        }
+        let lanes = self
+            .order
+            .place(words, held.as_mut_slice(), archive, lane, pass, taken);
         show(&mut self.tables, shown, fault);
         lanes
     }

@@ -17,17 +17,16 @@ use crate::serving::Serving;
 use depot_commit::{Told, place_unwritten};
 use depot_rows::model::{Answer, Request};
 use depot_rows::paths::Sequence;
-use locked_tables::{ArchiveLane, NoLane, OrderWords, PartyPass, Taken};
+use locked_tables::{ArchiveLane, HeldTable, NoLane, OrderWords, PartyPass, Taken};
 use outside_api::Disk;
 use std::alloc::Global;
-use table_locks::Prepared;
 
 impl<D: Disk, N: Serving> CommonDepot<D, N> {
     /// Gives a command its place that writes nothing more. Where a content couldn't be read it is that of a
     /// fault, and it touches the archive's lane, which is held then; the archive ends where it did.
-    pub(crate) fn place_quiet<A: ArchiveLane<N>>(
+    pub(crate) fn place_quiet<'a, A: ArchiveLane<N>>(
         &mut self,
-        words: &OrderWords<N>,
+        words: &'a OrderWords<N>,
         alloc: Global,
         pass: &mut PartyPass<N>,
         archive: &mut A,
@@ -62,8 +61,9 @@ impl<D: Disk, N: Serving> CommonDepot<D, N> {
             stores,
         };
         let place = taken.place();
-        let nothing = Prepared::nothing(alloc);
-        nothing.place(words, &mut self.order, archive, &mut NoLane, pass, taken);
+        let none: &mut [HeldTable<'a, N>] = &mut [];
+        self.order
+            .place(words, none, archive, &mut NoLane, pass, taken);
         Answer {
             place,
             reply: answer.reply,

@@ -1,4 +1,4 @@
--- What a command has once its changes are prepared. This project's own choice.
+-- The tables that a command holds once its changes are prepared. This project's own choice.
 use Rattle.std.specs.Prelude.{◌≡◌, ◌==◌, ℕ, zero, suc, Bool, List, [], ◌∷◌, Option, Some, None, if◌then◌else◌}
 use Rattle.std.specs.List.{list_all, list_any}
 use Rattle.depot_model.specs.db_records.Record.{table_of}
@@ -11,7 +11,6 @@ use Rattle.order_words.specs.Lanes.{is_among}
 use Rattle.table_changes.specs.Changed.{AllRows}
 use Rattle.table_changes.specs.table_store.Rows.{TableRows}
 use Rattle.table_locks.specs.Gathered.{is_of}
-use Rattle.table_locks.specs.declared.prepared.Prepared.{Prepared}
 
 -- one of the changes is of a row of the table
 abbrev pub is_changed : List Change → TableId → Bool
@@ -49,7 +48,7 @@ module _ {N : Type 0} where
   FollowFrom (suc from) after changes _ _ = ⊥
 
   -- The versions that are to follow are those after the changes. They are of the tables of which a row changes, and no other table changes
-  pub record IsPrepared (start : AllRows) (changes : List Change) (prepared : Prepared N) : Type 0 where
-    pub next : AllNext start changes prepared.held.items
-    pub lanes : (table : TableId) → is_among (table_number table) (lanes_next prepared.held.items) ≡ is_changed changes table
-    pub only : OnlyChange changes (lanes_next prepared.held.items)
+  pub record IsPrepared (start : AllRows) (changes : List Change) (held : List (HeldTable N)) : Type 0 where
+    pub next : AllNext start changes held
+    pub lanes : (table : TableId) → is_among (table_number table) (lanes_next held) ≡ is_changed changes table
+    pub only : OnlyChange changes (lanes_next held)

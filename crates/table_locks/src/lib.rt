@@ -16,11 +16,9 @@ mod confirming;
 mod gathered;
 mod gathering;
 mod looking;
-mod prepared;
 mod preparing;
 mod ways;
 
 pub use confirmed::Confirmed;
 pub use gathered::Gathered;
 pub use gathering::gather;
-pub use prepared::Prepared;

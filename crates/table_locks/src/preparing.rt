@@ -13,7 +13,6 @@ ghost use Rattle.table_locks.specs.Prepared.{FollowFrom, Follows, IsPrepared, ar
 ghost use Rattle.table_locks.specs.declared.gathered.Gathered.{Gathered};
 
 use crate::confirmed::Confirmed;
-use crate::prepared::Prepared;
 use depot_model::records::{Change, TableId};
 use locked_tables::{HeldTable, Naming};
 use std::alloc::AllocError;
@@ -100,18 +99,23 @@ impl<'a, N: Naming> Confirmed<'a, N> {
         self.holds_each(changes)
     }
 
-    /// Prepares changes of tables that are held: each of which a row changes gets the version that
-    /// it has in `after`. Where those are the tables after the whole order and then the changes,
-    /// the command can be given its place. The one error is that there are too many shares.
-    pub fn prepare(self, after: &Tables, changes: &[Change]) -> Result<Prepared<'a, N>, AllocError>
+    /// Prepares changes of tables that are held, and gives these tables: each of which a row changes
+    /// has the version that it has in `after` as the one that is to follow. Where those are the tables
+    /// after the whole order and then the changes, the command can be given its place. The one error is
+    /// that there are too many shares.
+    pub fn prepare(
+        self,
+        after: &Tables,
+        changes: &[Change],
+    ) -> Result<Vec<HeldTable<'a, N>>, AllocError>
         requires held { IsTrue (are_held self.held.items changes.now) }
         ensures prepared { IfOk result (λ prepared. (order : List Taken) (gathered : Gathered N) → IsConfirmed N.rows order gathered self.entry →
-            ((table : AnyTable) → rows_of after.now table ≡ changed_by (rows_after N.rows order) changes.now table) → IsPrepared N.rows changes.now prepared) }
-        ensures held { IfOk result (λ prepared. tables_of prepared.held.items ≡ tables_of self.entry.held.items) }
+            ((table : AnyTable) → rows_of after.now table ≡ changed_by (rows_after N.rows order) changes.now table) → IsPrepared N.rows changes.now prepared.items) }
+        ensures held { IfOk result (λ prepared. tables_of prepared.items ≡ tables_of self.entry.held.items) }
     {
         let Confirmed { mut held, tables } = self;
         drop(tables);
         follow_from(held.as_mut_slice(), after, changes, 0)?;
-        Ok(Prepared { held })
+        Ok(held)
     }
 }

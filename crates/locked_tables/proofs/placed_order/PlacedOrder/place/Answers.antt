@@ -5,11 +5,12 @@ use Rattle.order_words.specs.Seats.{OrderState}
 use Rattle.table_changes.specs.Changed.{changed_by}
 use Rattle.locked_tables.specs.Held.{lanes_next}
 use Rattle.locked_tables.specs.Known.{all_places}
+use Rattle.locked_tables.specs.Placing.{TouchesLanes}
 use Rattle.locked_tables.specs.Taken.{end_after, place_of, rows_after}
 use Rattle.locked_tables.specs.declared.taken.Taken.{Taken}
 use Rattle.locked_tables.proofs.Archive.{end_placed}
 use Rattle.locked_tables.proofs.Lanes.{next_of_tables}
-use Rattle.locked_tables.proofs.Placed.{TouchesLanes, counts_kept, of_archive, of_journal, parties_kept, rows_changed_by, tables_kept}
+use Rattle.locked_tables.proofs.Placed.{counts_kept, of_archive, parties_kept, rows_changed_by, tables_kept}
 use Rattle.locked_tables.proofs.Room.{has_room, left_behind}
 use Rattle.locked_tables.proofs.Touched.{touched_next}
 use Rattle.locked_tables.proofs.placed_order.PlacedOrder.place.Goals as goal
@@ -26,17 +27,14 @@ push_reserved-requires g c =
 
 pub invariant_of-self : goal.invariant_of-self
 invariant_of-self g c =
-    let run = g.N.Naming.run in
     let places = g.N.Naming.places in
-    let archive = g.A.ArchiveLane.is_held in
-    let journal = g.J.JournalLane.is_held in
     let order = c.self.inside.seat.list in
     let after = c.place-lanes.new.order.list in
     let placed = c.place-lanes.ensures.placed in
     let entry : Taken = record c.args.taken { lanes = c.place-lanes.result } in
-    let party = c.args.pass.now.party in
-    let tables : List ℕ = lanes_next c.args.held.now in
-    let touches : TouchesLanes run entry archive journal party tables = record { of_run = placed.party; below = next_of_tables c.args.held.now; are = c.place-lanes.ensures.lanes } in
+    let held = c.args.held.now in
+    let touches : TouchesLanes g.N.Naming.run entry g.A.ArchiveLane.is_held g.J.JournalLane.is_held c.args.pass.now.party (lanes_next held) =
+    record { of_run = placed.party; below = next_of_tables held; are = c.place-lanes.ensures.lanes } in
     let last : after ≡ order ++ entry ∷ [] = ap (λ (o : OrderState Taken). o.list) placed.order in
     let items = c.push_reserved.ensures.items
     ∙ (λ i. c.self.invariant.1 i ++ c.place-place.ensures i ∷ [])
@@ -44,44 +42,35 @@ invariant_of-self g c =
     ∙ ap (map place_of) (sym last) in (
       ap (λ (o : OrderState Taken). o.run) placed.order ∙ c.self.invariant.0,
       items,
-      tables_kept run entry archive journal party tables touches order after last c.requires.only c.self.invariant.2,
-      parties_kept run entry archive journal party tables touches order after last c.requires.party c.self.invariant.3,
+      tables_kept touches order after last c.requires.only c.self.invariant.2,
+      parties_kept touches order after last c.requires.party c.self.invariant.3,
       counts_kept places c.args.pass.now order after entry last placed.own c.requires.party c.requires.room c.self.invariant.4,
       subst (λ (n : ℕ). all_places places 16 ≤ n) (sym c.push_reserved.ensures.capacity) c.self.invariant.5,
       touched_next c.self.inside.touched _ order after entry c.places.result last c.places.ensures c.touch_tables.ensures c.self.invariant.6,
     )
 
-pub returns-clause-of_archive : goal.returns-clause-of_archive
-returns-clause-of_archive g c =
-    of_archive g.N.Naming.run (record c.args.taken { lanes = c.place-lanes.result }) g.A.ArchiveLane.is_held g.J.JournalLane.is_held c.args.pass.now.party (lanes_next c.args.held.now)
-    (record { of_run = c.place-lanes.ensures.placed.party; below = next_of_tables c.args.held.now; are = c.place-lanes.ensures.lanes })
-
-pub returns-clause-of_journal : goal.returns-clause-of_journal
-returns-clause-of_journal g c =
-    of_journal g.N.Naming.run (record c.args.taken { lanes = c.place-lanes.result }) g.A.ArchiveLane.is_held g.J.JournalLane.is_held c.args.pass.now.party (lanes_next c.args.held.now)
-    (record { of_run = c.place-lanes.ensures.placed.party; below = next_of_tables c.args.held.now; are = c.place-lanes.ensures.lanes })
+pub returns-clause-touches : goal.returns-clause-touches
+returns-clause-touches g c = record { of_run = c.place-lanes.ensures.placed.party; below = next_of_tables c.args.held.now; are = c.place-lanes.ensures.lanes }
 
 pub returns-clause-end : goal.returns-clause-end
 returns-clause-end g c =
     let archive = g.A.ArchiveLane.is_held in
     let end = g.N.Naming.end in
-    let order = c.self.inside.seat.list in
     let after = c.place-lanes.new.order.list in
-    let placed = c.place-lanes.ensures.placed in
     let entry : Taken = record c.args.taken { lanes = c.place-lanes.result } in
-    let touched =
-    of_archive g.N.Naming.run entry archive g.J.JournalLane.is_held c.args.pass.now.party (lanes_next c.args.held.now)
-    (record { of_run = placed.party; below = next_of_tables c.args.held.now; are = c.place-lanes.ensures.lanes }) in
+    let held = c.args.held.now in
+    let touches : TouchesLanes g.N.Naming.run entry archive g.J.JournalLane.is_held c.args.pass.now.party (lanes_next held) =
+    record { of_run = c.place-lanes.ensures.placed.party; below = next_of_tables held; are = c.place-lanes.ensures.lanes } in
     subst (λ (l : List Taken). end_after end after ≡ (if archive then c.args.taken.end else end_after end l)) c.self.view_is
-    (end_placed end order after entry archive (ap (λ (o : OrderState Taken). o.list) placed.order) touched)
+    (end_placed end c.self.inside.seat.list after entry archive (ap (λ (o : OrderState Taken). o.list) c.place-lanes.ensures.placed.order) (of_archive touches))
 
 pub returns-clause-rows : goal.returns-clause-rows
 returns-clause-rows g c = λ table.
     let rows = g.N.Naming.rows in
     let after = c.place-lanes.new.order.list in
-    let placed = c.place-lanes.ensures.placed in
     let entry : Taken = record c.args.taken { lanes = c.place-lanes.result } in
+    let held = c.args.held.now in
+    let touches : TouchesLanes g.N.Naming.run entry g.A.ArchiveLane.is_held g.J.JournalLane.is_held c.args.pass.now.party (lanes_next held) =
+    record { of_run = c.place-lanes.ensures.placed.party; below = next_of_tables held; are = c.place-lanes.ensures.lanes } in
     subst (λ (l : List Taken). rows_after rows after table ≡ changed_by (rows_after rows l) entry.changes table) c.self.view_is
-    (rows_changed_by g.N.Naming.run entry g.A.ArchiveLane.is_held g.J.JournalLane.is_held c.args.pass.now.party (lanes_next c.args.held.now)
-    (record { of_run = placed.party; below = next_of_tables c.args.held.now; are = c.place-lanes.ensures.lanes })
-    c.self.inside.seat.list after (ap (λ (o : OrderState Taken). o.list) placed.order) c.requires.only rows table)
+    (rows_changed_by touches c.self.inside.seat.list after (ap (λ (o : OrderState Taken). o.list) c.place-lanes.ensures.placed.order) c.requires.only rows table)

@@ -2,6 +2,7 @@ use Rattle.std.proofs.Common.{◌≡◌, ◌∷◌, ◌++◌, true, false, List,
 use Rattle.std.proofs.lemmas.Bool.{true≢false}
 use Rattle.locked_tables.specs.Taken.{archive_lane, end_after, placed_of, rows_after}
 use Rattle.locked_tables.specs.declared.taken.Taken.{Taken}
+use Rattle.locked_tables.proofs.Placed.{of_archive, of_journal}
 use Rattle.order_words.specs.Lanes.{has_lane}
 use Rattle.shared_depot.specs.Common.{IsQuiet, KeepsOrder}
 use Rattle.shared_depot.specs.Room.{IsDueAfter}
@@ -21,12 +22,12 @@ invariant_of-self g c =
     let unwritten = c.place_unwritten-answer.ensures in
     let fault = c.place_unwritten-answer.result.place.fault in
     let entry : Taken = record { request = c.args.request; fault = fault; lost = fault; lanes = c.place.result; changes = c.new-changes.result; end = c.args.end; stores = c.new-stores.result } in
-    let touches : has_lane c.place.result archive_lane ≡ fault = c.place.ensures.of_archive ∙ (sym c.requires.held ∙ sym unwritten.fault) in
+    let touches : has_lane c.place.result archive_lane ≡ fault = of_archive c.place.ensures.touches ∙ (sym c.requires.held ∙ sym unwritten.fault) in
     let due : c.args.told.unread ≡ false → IsDueAfter rows end images begins order c.args.request c.args.told = λ read.
     subst (λ (l : List Taken). IsDueAfter rows end images begins l c.args.request c.args.told) (sym c.self.view_is) (c.requires.due read) in
     let quiet : IsQuiet begins (rows_after rows order) (end_after end order) entry = record {
       unchanged = c.new-changes.ensures;
-      unstored = λ has. (c.new-stores.ensures, c.requires.end (sym c.place.ensures.of_archive ∙ has) ∙ ap (end_after end) (sym c.self.view_is));
+      unstored = λ has. (c.new-stores.ensures, c.requires.end (sym (of_archive c.place.ensures.touches) ∙ has) ∙ ap (end_after end) (sym c.self.view_is));
       written = written_so entry touches refl;
       leaves = λ since start at fine.
           let read = sym unwritten.fault ∙ fine in
@@ -34,7 +35,7 @@ invariant_of-self g c =
           unwritten.leaves (rows_after rows order) (end_after end order) is.outcome (c.requires.proper since start at) (is.stands since start at) is.tells read;
     } in
     subst (λ (l : List Taken). KeepsOrder D.says rows end images begins g.N.Serving.masters l c.self.inside.tables) (sym c.place.ensures.placed)
-    (keeps_quiet D.says rows end images begins g.N.Serving.masters order c.self.inside.tables c.self.invariant entry c.place.ensures.of_journal quiet)
+    (keeps_quiet D.says rows end images begins g.N.Serving.masters order c.self.inside.tables c.self.invariant entry (of_journal c.place.ensures.touches) quiet)
 
 pub returns-clause-taken : goal.returns-clause-taken
 returns-clause-taken g c =
@@ -50,19 +51,19 @@ returns-clause-taken g c =
     let run = c.self.invariant.run in
     let due : c.args.told.unread ≡ false → IsDueAfter rows end images begins order c.args.request c.args.told = λ read.
     subst (λ (l : List Taken). IsDueAfter rows end images begins l c.args.request c.args.told) (sym c.self.view_is) (c.requires.due read) in
-    taken_so begins order c.place.new.order c.args.pass.now c.place.new.pass entry c.args.request answer _ c.place.ensures.placed c.place.ensures.pass c.place.ensures.own
+    taken_so begins order c.place.new.self c.args.pass.now c.place.new.pass entry c.args.request answer _ c.place.ensures.placed c.place.ensures.pass c.place.ensures.own
     refl refl (λ k. record { place = c.place-place.ensures k; reply = answer.reply })
     (λ since start at.
     c.place_unwritten-answer.ensures.answers start (map placed_of order) c.requires.tells.0 c.requires.tells.1
     (λ read. reply_after D.says rows end images begins g.N.Serving.masters order run.0 run.1.0 run.1.1 c.args.request c.args.told (due read) since start at read))
-    (λ touches. absurd (true≢false (sym touches ∙ c.place.ensures.of_journal)))
+    (λ touches. absurd (true≢false (sym touches ∙ of_journal c.place.ensures.touches)))
 
 pub returns-clause-lost : goal.returns-clause-lost
 returns-clause-lost g c = λ is.
     let fault = c.place_unwritten-answer.result.place.fault in
     let entry : Taken = record { request = c.args.request; fault = fault; lost = fault; lanes = c.place.result; changes = c.new-changes.result; end = c.args.end; stores = c.new-stores.result } in
     let failed : fault ≡ true = c.place_unwritten-answer.ensures.fault ∙ (c.requires.held ∙ is) in
-    let touches : has_lane c.place.result archive_lane ≡ true = c.place.ensures.of_archive ∙ is in
+    let touches : has_lane c.place.result archive_lane ≡ true = of_archive c.place.ensures.touches ∙ is in
     record {
       entry = entry;
       placed = c.place.ensures.placed ∙ ap (λ (l : List Taken). l ++ entry ∷ []) c.self.view_is;

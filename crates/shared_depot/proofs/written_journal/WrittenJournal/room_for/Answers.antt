@@ -15,7 +15,7 @@ returns g c =
     let same : changes ≡ told.changes = c.as_slice-changes.ensures in
     let after : (table : TableId) → rows_of c.in_ok-after.after table ≡ changed_by (rows_after rows order) changes table = c.in_ok-after.ensures.rows in
     record {
-      prepared = subst (λ (l : List Change). IsPrepared rows l c.in_ok-prepared.prepared) same (c.in_ok-prepared.ensures.prepared order c.requires.confirmed.0 c.requires.confirmed.1 after);
+      prepared = subst (λ (l : List Change). IsPrepared rows l c.in_ok-prepared.prepared.items) same (c.in_ok-prepared.ensures.prepared order c.requires.confirmed.0 c.requires.confirmed.1 after);
       after = λ table. after table ∙ ap (λ (l : List Change). changed_by (rows_after rows order) l table) same;
       shown = c.in_ok-shown.ensures;
     }
