@@ -1,7 +1,6 @@
 -- What goes on where an attempt left a party and its command as they were, and where a reply was printed.
 use Rattle.std.proofs.Common.{◌≡◌, ℕ, false, List, Option, Some, None, refl, sym, ap, subst, ◌∙◌}
-use Rattle.std.specs.Prelude.{IfSome, IsSome, is_some}
-use Rattle.command_needs.specs.Sets.{AreOfWords}
+use Rattle.std.specs.Prelude.{is_some}
 use Rattle.command_needs.specs.declared.needs.Needs.{Needs}
 use Rattle.depot_commit.specs.command_core.declared.outcome.Outcome.{Outcome}
 use Rattle.depot_rows.specs.depot_model.Deeds.{Deed}
@@ -11,7 +10,7 @@ use Rattle.locked_tables.specs.Known.{PartyKnown}
 use Rattle.locked_tables.specs.Taken.{end_after}
 use Rattle.locked_tables.specs.declared.taken.Taken.{Taken}
 use Rattle.outside_api.specs.Disk.{Files}
-use Rattle.shared_depot.specs.Ready.{IfTold, IsTried, MayTake}
+use Rattle.shared_depot.specs.Ready.{IfTold, IsAsked, IsTried}
 use Rattle.shared_depot.specs.Room.{IsToldAfter}
 use Rattle.shared_depot.specs.declared.reading.Reading.{Reading}
 use Rattle.shared_depot.specs.declared.reading.Reading.TheVariants.{Placed, Told}
@@ -28,15 +27,9 @@ none_left (Some value) never = absurd (never value refl)
 -- ---- the party and its command are as they were
 
 module _ (old mid : PartyKnown) (asked kept : Option Request) (same : mid ≡ old) (still : kept ≡ asked) where
-  pub some_on : IsSome asked → IsSome kept
-  some_on some = subst (λ (o : Option Request). IsSome o) (sym still) some
-
-  pub words_on : (needs : Needs) → IfSome asked (λ request. AreOfWords request.command needs) → IfSome kept (λ request. AreOfWords request.command needs)
-  words_on needs words = subst (λ (o : Option Request). IfSome o (λ request. AreOfWords request.command needs)) (sym still) words
-
-  pub may_on : (places : ℕ → ℕ) (begins : ℕ → List Deed → Type 0) → IfSome asked (MayTake places begins old) → IfSome kept (MayTake places begins mid)
-  may_on places begins may =
-      subst (λ (o : Option Request). IfSome o (MayTake places begins mid)) (sym still) (subst (λ (p : PartyKnown). IfSome asked (MayTake places begins p)) (sym same) may)
+  pub asked_on : (places : ℕ → ℕ) (begins : ℕ → List Deed → Type 0) (needs : Needs) → IsAsked places begins old needs asked → IsAsked places begins mid needs kept
+  asked_on places begins needs is =
+      subst (IsAsked places begins mid needs) (sym still) (subst (λ (p : PartyKnown). IsAsked places begins p needs asked) (sym same) is)
 
   pub tried_on : {D N : Type 0} (rows : AllRows) (end : ℕ) (images : Files → Type 0) (begins : ℕ → List Deed → Type 0) (new : PartyKnown) (left : Option Request) (tried : Tried D N)
       → IsTried rows end images begins mid new kept left tried → IsTried rows end images begins old new asked left tried

@@ -1,5 +1,5 @@
 -- What a command has whose place is at hand. This project's own choice.
-use Rattle.std.specs.Prelude.{◌≡◌, ◌≢◌, ℕ, false, List, [], filter, Bool, IfSome, IsTrue, None, Option}
+use Rattle.std.specs.Prelude.{◌≡◌, ◌≢◌, ◌⊎◌, ℕ, false, List, [], filter, Bool, IfSome, IsSome, IsTrue, None, Option}
 use Rattle.std.specs.Sync.Mutex.{mutex_guard_value}
 use Rattle.std.specs.declared.sync.MutexGuard.{MutexGuard}
 use Rattle.command_needs.specs.declared.needs.Needs.{Needs}
@@ -23,7 +23,7 @@ use Rattle.table_locks.specs.Gathered.{Covers, IsShown, tables_held}
 use Rattle.table_locks.specs.Prepared.{are_held}
 use Rattle.table_locks.specs.Ways.{holds_table}
 use Rattle.table_locks.specs.declared.gathered.Gathered.{Gathered}
-use Rattle.shared_depot.specs.Room.{IsAtOrder, IsDueAfter, IsRoomFor, IsStillSo, IsToldAfter}
+use Rattle.shared_depot.specs.Room.{IsAtOrder, IsDueAfter, IsEndKnown, IsRoomFor, IsStillSo, IsToldAfter}
 use Rattle.shared_depot.specs.Sharing.{IsTakenAt}
 use Rattle.shared_depot.specs.Stored.{stores_of}
 use Rattle.shared_depot.specs.declared.attempts.Settled.{Settled}
@@ -41,6 +41,12 @@ pub record MayTake (places : ℕ → ℕ) (begins : ℕ → List Deed → Type 0
   pub room : HasPlaceLeft places pass
   pub party : request.party ≡ pass.party
   pub proper : (since : ℕ) (start : List Deed) → begins since start → IsProper request
+
+-- a command of the words of these needs is asked, and may be given a place of the party
+pub record IsAsked (places : ℕ → ℕ) (begins : ℕ → List Deed → Type 0) (pass : PartyKnown) (needs : Needs) (asked : Option Request) : Type 0 where
+  pub some : IsSome asked
+  pub words : IfSome asked (λ request. AreOfWords request.command needs)
+  pub may : IfSome asked (MayTake places begins pass)
 
 -- the reply to a command is printed, with all contents that it waits for, and the command has no place yet
 pub record IsPrinted (old new : PartyKnown) (asked left : Option Request) (outcome : Outcome) (number : ℕ) (told : Told) : Type 0 where
@@ -86,6 +92,13 @@ module _ {N : Type 0} where
     pub words : AreOfWords request.command needs
     pub proper : (since : ℕ) (start : List Deed) → begins since start → IsProper request
     pub found : IsFoundOver end images begins gathered archive request told
+
+  -- What is told was made over the gathered set of a request, which it fits, and each content was read; where contents are stored, it was seen there where the archive ends.
+  pub record IsToldOver (rows : AllRows) (end : ℕ) (whole : Bool) (needs : Needs) (gathered : Gathered N) (archive : Option (MutexGuard (List Taken))) (told : Told) : Type 0 where
+    pub set : IsGatheredFor rows whole needs gathered
+    pub ends : (told.stores ≡ []) ⊎ IsEndKnown end gathered.tables.archive_end archive
+    pub fit : AllFitIn (rows_of gathered.tables) told.changes
+    pub read : told.unread ≡ false
 
 module _ {D N : Type 0} where
   -- What was gathered is confirmed after an order, and still so; the tables of the changes are held, which fit there if they fit what was gathered. The

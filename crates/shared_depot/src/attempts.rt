@@ -1,16 +1,15 @@
 //! How a command is made ready for its place.
-ghost use Rattle.std.specs.Prelude.{◌≡◌, ◌≢◌, ◌⊎◌, None, [], false, IfOk, IfSome, IsSome, IsTrue, IsFalse, OnErr, OnOk};
+ghost use Rattle.std.specs.Prelude.{◌≡◌, ◌≢◌, ◌⊎◌, None, [], IfOk, IfSome, IsSome, IsTrue, IsFalse, OnErr, OnOk};
 ghost use Rattle.std.specs.Sync.Mutex.{mutex_guard_value};
 ghost use Rattle.depot_commit.specs.Telling.{IsUnwritten};
-ghost use Rattle.command_needs.specs.Sets.{AreOfWords};
 ghost use Rattle.depot_rows.specs.depot_model.declared.request.Request.{Request as AnyRequest};
 ghost use Rattle.locked_tables.specs.Taken.{end_after, rows_after};
-ghost use Rattle.depot_rows.specs.table_changes.Changed.{AllFitIn, rows_of};
+ghost use Rattle.depot_rows.specs.table_changes.Changed.{AllFitIn};
 ghost use Rattle.table_locks.specs.Confirmed.{IsConfirmed};
 ghost use Rattle.table_locks.specs.Gathered.{IsShown};
 ghost use Rattle.table_locks.specs.Prepared.{are_held};
 ghost use Rattle.table_locks.specs.declared.gathered.Gathered.{Gathered as AnyGathered};
-ghost use Rattle.shared_depot.specs.Ready.{IsFoundFor, IsGatheredFor, IsQuietFor, IsReadyFor, IsSettled, IsTakenFor, IsTried, IsWritingFor, MayTake};
+ghost use Rattle.shared_depot.specs.Ready.{IsAsked, IsFoundFor, IsGatheredFor, IsQuietFor, IsReadyFor, IsSettled, IsTakenFor, IsToldOver, IsTried, IsWritingFor};
 ghost use Rattle.shared_depot.specs.Room.{IsAtOrder, IsEndKnown, IsRoomFor};
 ghost use Rattle.shared_depot.specs.Stored.{stores_of};
 ghost use Rattle.shared_depot.specs.declared.ready.Attempt.TheVariants as attempts;
@@ -232,10 +231,8 @@ impl<D: Disk, N: Serving> SharedDepot<D, N> {
         archive: Option<MutexGuard<'a, StoredArchive<D, N>>>,
         told: Told,
     ) -> Result<Option<Quiet<'a, D, N>>, AllocError>
-        requires gathered { IsGatheredFor N.rows whole needs.now gathered }
-        requires end { (told.stores ≡ []) ⊎ IsEndKnown N.end gathered.tables.archive_end archive }
+        requires told { IsToldOver N.rows N.end whole needs.now gathered archive told }
         requires unwritten { IsUnwritten told }
-        requires read { told.unread ≡ false }
         ensures quiet { (request : AnyRequest) → IsFoundFor N.end N.images N.begins needs.now gathered.entry archive.entry request told →
             IfOk result (λ found. IfSome found (IsQuietFor N.rows N.end N.images N.begins request)) }
         ensures always { IfOk result (λ found. IsTrue whole → IsSome found) }
@@ -292,11 +289,8 @@ impl<D: Disk, N: Serving> SharedDepot<D, N> {
         archive: Option<MutexGuard<'a, StoredArchive<D, N>>>,
         told: Told,
     ) -> Result<Option<Writing<'a, D, N>>, AllocError>
-        requires gathered { IsGatheredFor N.rows whole needs.now gathered }
-        requires end { (told.stores ≡ []) ⊎ IsEndKnown N.end gathered.tables.archive_end archive }
-        requires fit { AllFitIn (rows_of gathered.tables) told.changes }
+        requires told { IsToldOver N.rows N.end whole needs.now gathered archive told }
         requires some { told.changes ≢ [] }
-        requires read { told.unread ≡ false }
         ensures writing { (request : AnyRequest) → IsFoundFor N.end N.images N.begins needs.now gathered.entry archive.entry request told →
             IfOk result (λ found. IfSome found (IsWritingFor N.rows N.end N.images N.begins request)) }
         ensures always { IfOk result (λ found. IsTrue whole → IsSome found) }
@@ -341,10 +335,7 @@ impl<D: Disk, N: Serving> SharedDepot<D, N> {
         archive: Option<MutexGuard<'a, StoredArchive<D, N>>>,
         told: Told,
     ) -> Result<Option<Ready<'a, D, N>>, AllocError>
-        requires gathered { IsGatheredFor N.rows whole needs.now gathered }
-        requires end { (told.stores ≡ []) ⊎ IsEndKnown N.end gathered.tables.archive_end archive }
-        requires fit { AllFitIn (rows_of gathered.tables) told.changes }
-        requires read { told.unread ≡ false }
+        requires { IsToldOver N.rows N.end whole needs.now gathered archive told }
         ensures ready { (request : AnyRequest) → IsFoundFor N.end N.images N.begins needs.now gathered.entry archive.entry request told →
             IfOk result (λ found. IfSome found (IsReadyFor N.rows N.end N.images N.begins request)) }
         ensures always { IfOk result (λ found. IsTrue whole → IsSome found) }
@@ -377,9 +368,7 @@ impl<D: Disk, N: Serving> SharedDepot<D, N> {
         attempt: Attempt,
         asked: &mut Option<Request>,
     ) -> Result<Option<Tried<'a, D, N>>, AllocError>
-        requires some { IsSome asked.old }
-        requires needs { IfSome asked.old (λ request. AreOfWords request.command needs.now) }
-        requires may { IfSome asked.old (MayTake N.places N.begins pass.old) }
+        requires { IsAsked N.places N.begins pass.old needs.now asked.old }
         ensures tried { IfOk result (λ found. IfSome found (IsTried N.rows N.end N.images N.begins pass.old pass.new asked.old asked.new)) }
         ensures overtaken { IfOk result (λ found. found ≡ None → (pass.new ≡ pass.old) × (asked.new ≡ asked.old)) }
         ensures nothing { OnErr result (pass.new ≡ pass.old) }
@@ -427,9 +416,7 @@ impl<D: Disk, N: Serving> SharedDepot<D, N> {
         times: u32,
         asked: &mut Option<Request>,
     ) -> Result<Option<Tried<'a, D, N>>, AllocError>
-        requires some { IsSome asked.old }
-        requires needs { IfSome asked.old (λ request. AreOfWords request.command needs.now) }
-        requires may { IfSome asked.old (MayTake N.places N.begins pass.old) }
+        requires { IsAsked N.places N.begins pass.old needs.now asked.old }
         ensures tried { IfOk result (λ found. IfSome found (IsTried N.rows N.end N.images N.begins pass.old pass.new asked.old asked.new)) }
         ensures overtaken { IfOk result (λ found. found ≡ None → (pass.new ≡ pass.old) × (asked.new ≡ asked.old)) }
         ensures nothing { OnErr result (pass.new ≡ pass.old) }
@@ -460,9 +447,7 @@ impl<D: Disk, N: Serving> SharedDepot<D, N> {
         needs: &Needs,
         asked: &mut Option<Request>,
     ) -> Result<Tried<'a, D, N>, AllocError>
-        requires some { IsSome asked.old }
-        requires needs { IfSome asked.old (λ request. AreOfWords request.command needs.now) }
-        requires may { IfSome asked.old (MayTake N.places N.begins pass.old) }
+        requires { IsAsked N.places N.begins pass.old needs.now asked.old }
         ensures tried { IfOk result (IsTried N.rows N.end N.images N.begins pass.old pass.new asked.old asked.new) }
         ensures nothing { OnErr result (pass.new ≡ pass.old) }
     {

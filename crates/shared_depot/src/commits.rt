@@ -1,9 +1,6 @@
 //! The commit of a command that writes.
-ghost use Rattle.std.specs.Prelude.{◌≡◌, ◌≢◌, ◌≤◌, ℕ, List, [], false, IfOk, OnErr};
-ghost use Rattle.depot_rows.specs.depot_model.Deeds.{Deed};
-ghost use Rattle.locked_tables.specs.Known.{HasPlaceLeft};
-ghost use Rattle.session_loop.specs.Taking.{IsProper};
-ghost use Rattle.shared_depot.specs.Ready.{IsReadyFor};
+ghost use Rattle.std.specs.Prelude.{◌≡◌, ◌≢◌, ◌≤◌, [], false, IfOk, OnErr};
+ghost use Rattle.shared_depot.specs.Ready.{IsReadyFor, MayTake};
 ghost use Rattle.shared_depot.specs.Room.{IsDueAfter, IsRoomFor, IsStoredBehind};
 ghost use Rattle.shared_depot.specs.Sharing.{IsTakenAt};
 ghost use Rattle.shared_depot.specs.Stored.{stored_end};
@@ -36,7 +33,7 @@ impl<D: Disk, N: Serving> WrittenJournal<D, N> {
         told: Told,
         request: Request,
     ) -> Result<Answer, AllocError>
-        requires place { HasPlaceLeft N.places pass.old }
+        requires may { MayTake N.places N.begins pass.old request }
         requires room { IsRoomFor N.rows self.old told room }
         requires held { S.is_archive ≡ A.is_held }
         requires used { S.ends_at store.old (stored_end N.end self.old) }
@@ -44,8 +41,6 @@ impl<D: Disk, N: Serving> WrittenJournal<D, N> {
         requires changes { told.changes ≢ [] }
         requires read { told.unread ≡ false }
         requires due { IsDueAfter N.rows N.end N.images N.begins self.old request told }
-        requires proper { (since : ℕ) (start : List Deed) → N.begins since start → IsProper request }
-        requires party { request.party ≡ pass.old.party }
         ensures taken { IfOk result (IsTakenAt N.begins pass.old pass.new request) }
         ensures nothing { OnErr result ((pass.new ≡ pass.old) × (store.new ≡ store.old) × (lane.new ≡ lane.old)) }
         ensures stored { IfOk result (λ answer. IsStoredBehind A.Learns A.is_held S.stores S.faults lane.old lane.new store.old store.new) }
@@ -119,10 +114,8 @@ impl<'a, D: Disk, N: Serving> Ready<'a, D, N> {
         pass: &mut PartyPass<N>,
         request: Request,
     ) -> Result<Answer, AllocError>
-        requires room { HasPlaceLeft N.places pass.old }
+        requires may { MayTake N.places N.begins pass.old request }
         requires ready { IsReadyFor N.rows N.end N.images N.begins request self }
-        requires proper { (since : ℕ) (start : List Deed) → N.begins since start → IsProper request }
-        requires party { request.party ≡ pass.old.party }
         ensures taken { IfOk result (IsTakenAt N.begins pass.old pass.new request) }
         ensures nothing { OnErr result (pass.new ≡ pass.old) }
     {

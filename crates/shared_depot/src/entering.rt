@@ -2,11 +2,11 @@
 ghost use Rattle.std.specs.Prelude.{◌≡◌, ◌≤◌, ◌-◌, ◌^◌, ◌++◌, ◌∷◌, ℕ, List, [], if◌then◌else◌, true, false};
 ghost use Rattle.depot_rows.specs.db_records.declared.table.TableId.{TableId};
 ghost use Rattle.depot_rows.specs.table_changes.Changed.{changed_by, rows_of};
-ghost use Rattle.locked_tables.specs.Known.{HasPlaceLeft};
 ghost use Rattle.locked_tables.specs.Taken.{IsOwn, archive_lane, end_after, rows_after};
 ghost use Rattle.locked_tables.specs.declared.taken.Taken.{Taken as AnyTaken};
 ghost use Rattle.order_words.specs.Lanes.{has_lane};
 ghost use Rattle.shared_depot.specs.Common.{GoesOnQuietly, IsEntered, WasRun};
+ghost use Rattle.shared_depot.specs.Ready.{MayTake};
 ghost use Rattle.table_locks.specs.Prepared.{IsPrepared};
 
 use crate::common::CommonDepot;
@@ -41,9 +41,8 @@ impl<D: Disk, N: Serving> CommonDepot<D, N> {
         pass: &mut PartyPass<N>,
         taken: Taken,
     ) -> u32
-        requires room { HasPlaceLeft N.places pass.old }
+        requires may { MayTake N.places N.begins pass.old taken.request }
         requires fits { A.is_held ≡ true → taken.end ≤ 2 ^ 63 - 1 }
-        requires party { taken.request.party ≡ pass.old.party }
         requires prepared { taken.fault ≡ false → IsPrepared N.rows taken.changes prepared.items }
         requires unchanged { taken.fault ≡ true → taken.changes ≡ [] }
         requires shown { taken.fault ≡ false → (table : TableId) → rows_of shown table ≡ changed_by (rows_after N.rows lane.old) taken.changes table }

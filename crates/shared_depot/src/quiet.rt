@@ -1,13 +1,10 @@
 //! The place of a command that writes nothing more.
-ghost use Rattle.std.specs.Prelude.{◌≡◌, ◌≤◌, ◌-◌, ◌^◌, ℕ, List, true, false};
-ghost use Rattle.depot_rows.specs.depot_model.Deeds.{Deed};
-ghost use Rattle.locked_tables.specs.Known.{HasPlaceLeft};
+ghost use Rattle.std.specs.Prelude.{◌≡◌, ◌≤◌, ◌-◌, ◌^◌, true, false};
 ghost use Rattle.locked_tables.specs.Taken.{end_after};
 ghost use Rattle.depot_commit.specs.Telling.{IsTold, IsUnwritten};
 ghost use Rattle.depot_commit.specs.command_core.declared.outcome.Outcome.{Outcome};
-ghost use Rattle.session_loop.specs.Taking.{IsProper};
 ghost use Rattle.shared_depot.specs.Common.{IsLostPlace};
-ghost use Rattle.shared_depot.specs.Ready.{IsQuietFor};
+ghost use Rattle.shared_depot.specs.Ready.{IsQuietFor, MayTake};
 ghost use Rattle.shared_depot.specs.Room.{IsDueAfter};
 ghost use Rattle.shared_depot.specs.Sharing.{IsTakenAt};
 
@@ -34,15 +31,13 @@ impl<D: Disk, N: Serving> CommonDepot<D, N> {
         told: Told,
         request: Request,
     ) -> Answer
-        requires room { HasPlaceLeft N.places pass.old }
+        requires may { MayTake N.places N.begins pass.old request }
         requires unwritten { IsUnwritten told }
         requires held { told.unread ≡ A.is_held }
         requires end { A.is_held ≡ true → end ≡ end_after N.end self.old }
         requires fits { A.is_held ≡ true → end ≤ 2 ^ 63 - 1 }
         requires tells { (outcome : Outcome) × IsTold outcome request.number told }
         requires due { told.unread ≡ false → IsDueAfter N.rows N.end N.images N.begins self.old request told }
-        requires proper { (since : ℕ) (start : List Deed) → N.begins since start → IsProper request }
-        requires party { request.party ≡ pass.old.party }
         ensures taken { IsTakenAt N.begins pass.old pass.new request result }
         ensures archive { A.Learns self.old self.new archive.old archive.new }
         ensures lost { A.is_held ≡ true → IsLostPlace self.old self.new }
@@ -80,10 +75,8 @@ impl<'a, D: Disk, N: Serving> Quiet<'a, D, N> {
         pass: &mut PartyPass<N>,
         request: Request,
     ) -> Answer
-        requires room { HasPlaceLeft N.places pass.old }
+        requires may { MayTake N.places N.begins pass.old request }
         requires quiet { IsQuietFor N.rows N.end N.images N.begins request self }
-        requires proper { (since : ℕ) (start : List Deed) → N.begins since start → IsProper request }
-        requires party { request.party ≡ pass.old.party }
         ensures { IsTakenAt N.begins pass.old pass.new request result }
     {
         let Quiet { mut common, told } = self;

@@ -32,7 +32,7 @@ invariant_of-self g c =
       leaves = λ since start at fine.
           let read = sym unwritten.fault ∙ fine in
           let is = due read in
-          unwritten.leaves (rows_after rows order) (end_after end order) is.outcome (c.requires.proper since start at) (is.stands since start at) is.tells read;
+          unwritten.leaves (rows_after rows order) (end_after end order) is.outcome (c.requires.may.proper since start at) (is.stands since start at) is.tells read;
     } in
     subst (λ (l : List Taken). KeepsOrder D.says rows end images begins g.N.Serving.masters l c.self.inside.tables) (sym c.place.ensures.placed)
     (keeps_quiet D.says rows end images begins g.N.Serving.masters order c.self.inside.tables c.self.invariant entry (of_journal c.place.ensures.touches) quiet)

@@ -24,23 +24,19 @@ returns-in-Placed-clause-tried g c = subst (IsReadingOf g.N.Serving.begins c.arg
 
 -- ---- the reply is printed
 
-pub ready_for-requires-clause-read : goal.ready_for-requires-clause-read
-ready_for-requires-clause-read g c =
-    (subst (IsReadingOf g.N.Serving.begins c.args.pass.now c.tell_over.new.pass c.args.asked.now c.tell_over.new.asked c.in_ok-outcome.outcome c.unwrap-request.result.now.number) c.in-Told.is c.in_ok-reading.ensures.reading).read
-
-pub ready_for-requires-clause-fit : goal.ready_for-requires-clause-fit
-ready_for-requires-clause-fit g c =
-    let printed = subst (IsReadingOf g.N.Serving.begins c.args.pass.now c.tell_over.new.pass c.args.asked.now c.tell_over.new.asked c.in_ok-outcome.outcome c.unwrap-request.result.now.number) c.in-Told.is c.in_ok-reading.ensures.reading in
-    subst (AllFitIn _) (sym printed.tells.changes) (subst (λ (t : Tables). AllFitIn (rows_of t) c.in_ok-outcome.outcome.changes) c.tables.ensures c.in_ok-outcome.ensures.fit)
-
-pub ready_for-requires-clause-end : goal.ready_for-requires-clause-end
-ready_for-requires-clause-end g c =
-    let end = g.N.Naming.end in
+pub ready_for-requires : goal.ready_for-requires
+ready_for-requires g c =
     let seen = c.in_ok-gathered.gathered.tables.archive_end in
     let told = c.in-Told.told in
-    end_kept end seen c.in_ok-gathered.archive c.archive_for-archive.result c.in_ok-reading.archive (told.stores ≡ [])
-    (λ without. c.may_store_so.ensures c.if-not-may_store_so.false (c.is_some-stores.ensures ∙ without))
-    c.archive_for-archive.ensures.held c.in_ok-gathered.ensures.end (subst (IfTold _) c.in-Told.is c.in_ok-reading.ensures.list end seen)
+    let printed = subst (IsReadingOf g.N.Serving.begins c.args.pass.now c.tell_over.new.pass c.args.asked.now c.tell_over.new.asked c.in_ok-outcome.outcome c.unwrap-request.result.now.number) c.in-Told.is c.in_ok-reading.ensures.reading in
+    record {
+      set = c.in_ok-gathered.ensures.gathered;
+      ends = end_kept g.N.Naming.end seen c.in_ok-gathered.archive c.archive_for-archive.result c.in_ok-reading.archive (told.stores ≡ [])
+          (λ without. c.may_store_so.ensures c.if-not-may_store_so.false (c.is_some-stores.ensures ∙ without))
+          c.archive_for-archive.ensures.held c.in_ok-gathered.ensures.end (subst (IfTold _) c.in-Told.is c.in_ok-reading.ensures.list g.N.Naming.end seen);
+      fit = subst (AllFitIn _) (sym printed.tells.changes) (subst (λ (t : Tables). AllFitIn (rows_of t) c.in_ok-outcome.outcome.changes) c.tables.ensures c.in_ok-outcome.ensures.fit);
+      read = printed.read;
+    }
 
 pub returns-in-Some-clause-tried : goal.returns-in-Some-clause-tried
 returns-in-Some-clause-tried g c =
@@ -55,7 +51,7 @@ returns-in-Some-clause-tried g c =
             (subst (λ o. IfSome o (IsReadyFor g.N.Naming.rows g.N.Naming.end g.N.Imaging.images g.N.Serving.begins request)) c.in-Some.is
             (c.in_ok-ready-in-Told.ensures.ready request
             (record {
-              words = subst (λ (o : Option Request). IfSome o (λ r. AreOfWords r.command c.args.needs.now)) is c.requires.needs;
+              words = subst (λ (o : Option Request). IfSome o (λ r. AreOfWords r.command c.args.needs.now)) is c.requires.words;
               proper = (subst (λ (o : Option Request). IfSome o (MayTake g.N.Naming.places g.N.Serving.begins c.args.pass.now)) is c.requires.may).proper;
               found = record {
                 outcome = outcome;

@@ -3,26 +3,16 @@ use Rattle.std.proofs.lemmas.Bool.{true≢false}
 use Rattle.std.proofs.lemmas.Option.{IfSome_then}
 use Rattle.depot_commit.proofs.Stored.{on_err}
 use Rattle.std.specs.Option.{is_some}
-use Rattle.shared_depot.proofs.Tried.{may_on, none_of, some_on, tried_on, words_on}
+use Rattle.shared_depot.proofs.Tried.{asked_on, none_of, tried_on}
 use Rattle.shared_depot.proofs.shared.SharedDepot.look.Goals as goal
 
 pub loop-look-init : goal.loop-look-init
 loop-look-init g c = record { pass = refl; asked = refl }
 
-pub attempt-requires-clause-some : goal.attempt-requires-clause-some
-attempt-requires-clause-some g c =
+pub attempt-requires : goal.attempt-requires
+attempt-requires g c =
     let at = c.loop-look in
-    some_on c.args.pass.now at.pass c.args.asked.now at.asked at.invariant.pass at.invariant.asked c.requires.some
-
-pub attempt-requires-clause-needs : goal.attempt-requires-clause-needs
-attempt-requires-clause-needs g c =
-    let at = c.loop-look in
-    words_on c.args.pass.now at.pass c.args.asked.now at.asked at.invariant.pass at.invariant.asked c.args.needs.now c.requires.needs
-
-pub attempt-requires-clause-may : goal.attempt-requires-clause-may
-attempt-requires-clause-may g c =
-    let at = c.loop-look in
-    may_on c.args.pass.now at.pass c.args.asked.now at.asked at.invariant.pass at.invariant.asked g.N.Naming.places g.N.Serving.begins c.requires.may
+    asked_on c.args.pass.now at.pass c.args.asked.now at.asked at.invariant.pass at.invariant.asked g.N.Naming.places g.N.Serving.begins c.args.needs.now c.requires
 
 pub loop-look-preserved : goal.loop-look-preserved
 loop-look-preserved g c =

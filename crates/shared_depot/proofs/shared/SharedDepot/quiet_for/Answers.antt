@@ -6,6 +6,12 @@ use Rattle.shared_depot.specs.Ready.{IsSettled}
 use Rattle.shared_depot.specs.declared.attempts.Settled.{Settled}
 use Rattle.shared_depot.proofs.shared.SharedDepot.quiet_for.Goals as goal
 
+pub settle-requires-clause-shown : goal.settle-requires-clause-shown
+settle-requires-clause-shown g c = c.requires.told.set.shown
+
+pub settle-requires-clause-end : goal.settle-requires-clause-end
+settle-requires-clause-end g c = c.requires.told.ends
+
 pub returns-in-Ok-Some-clause-quiet : goal.returns-in-Ok-Some-clause-quiet
 returns-in-Ok-Some-clause-quiet g c = λ request is_found.
     let rows = g.N.Naming.rows in
@@ -25,6 +31,6 @@ returns-in-Ok-Some-clause-quiet g c = λ request is_found.
     let so : IsSettled rows end order gathered was told settled = subst (λ (l : List Taken). IsSettled rows end l gathered was told settled) here at_first in
     record {
       unwritten = c.requires.unwritten;
-      read = c.requires.read;
-      due = due_after rows end images begins order gathered c.args.whole c.args.needs.now request was told c.requires.gathered is_found so.still so.stores;
+      read = c.requires.told.read;
+      due = due_after rows end images begins order gathered c.args.whole c.args.needs.now request was told c.requires.told.set is_found so.still so.stores;
     }

@@ -1,7 +1,7 @@
 use Rattle.std.proofs.Common.{refl, subst, ◌∙◌}
 use Rattle.std.specs.Prelude.{IfSome}
 use Rattle.depot_commit.proofs.Stored.{on_err}
-use Rattle.shared_depot.proofs.Tried.{may_on, none_left, some_on, tried_on, words_on}
+use Rattle.shared_depot.proofs.Tried.{asked_on, none_left, tried_on}
 use Rattle.shared_depot.specs.Ready.{IsTried}
 use Rattle.shared_depot.proofs.shared.SharedDepot.ready.Goals as goal
 
@@ -13,20 +13,10 @@ returns-in-Some-clause-tried g c =
 
 -- ---- each was, and the whole set is held
 
-pub attempt-requires-clause-some : goal.attempt-requires-clause-some
-attempt-requires-clause-some g c =
+pub attempt-requires : goal.attempt-requires
+attempt-requires g c =
     let same = c.in_ok-looked.ensures.overtaken (none_left c.in_ok-looked.looked (λ tried. c.in_default.not-Some tried)) in
-    some_on c.args.pass.now c.look.new.pass c.args.asked.now c.look.new.asked same.0 same.1 c.requires.some
-
-pub attempt-requires-clause-needs : goal.attempt-requires-clause-needs
-attempt-requires-clause-needs g c =
-    let same = c.in_ok-looked.ensures.overtaken (none_left c.in_ok-looked.looked (λ tried. c.in_default.not-Some tried)) in
-    words_on c.args.pass.now c.look.new.pass c.args.asked.now c.look.new.asked same.0 same.1 c.args.needs.now c.requires.needs
-
-pub attempt-requires-clause-may : goal.attempt-requires-clause-may
-attempt-requires-clause-may g c =
-    let same = c.in_ok-looked.ensures.overtaken (none_left c.in_ok-looked.looked (λ tried. c.in_default.not-Some tried)) in
-    may_on c.args.pass.now c.look.new.pass c.args.asked.now c.look.new.asked same.0 same.1 g.N.Naming.places g.N.Serving.begins c.requires.may
+    asked_on c.args.pass.now c.look.new.pass c.args.asked.now c.look.new.asked same.0 same.1 g.N.Naming.places g.N.Serving.begins c.args.needs.now c.requires
 
 pub unwrap-requires : goal.unwrap-requires
 unwrap-requires g c = c.in_ok-whole.ensures.always refl

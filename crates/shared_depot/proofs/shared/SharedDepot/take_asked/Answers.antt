@@ -1,12 +1,11 @@
-use Rattle.std.proofs.Common.{Option, Some, refl, sym, ap, subst, ◌∙◌}
+use Rattle.std.proofs.Common.{Option, Some, refl, sym, subst, ◌∙◌}
 use Rattle.std.proofs.lemmas.Option.{same_Some}
 use Rattle.std.proofs.lemmas.Result.{IfOk-weaker, on_err_weaker}
 use Rattle.std.specs.Prelude.{IsSome}
 use Rattle.depot_rows.specs.depot_model.declared.order.Answer.{Answer}
 use Rattle.depot_rows.specs.depot_model.declared.request.Request.{Request}
-use Rattle.locked_tables.specs.Known.{HasPlaceLeft, PartyKnown}
-use Rattle.session_loop.specs.Taking.{IsProper}
-use Rattle.shared_depot.specs.Ready.{IsReadyFor, IsTried}
+use Rattle.locked_tables.specs.Known.{PartyKnown}
+use Rattle.shared_depot.specs.Ready.{IsReadyFor, IsTried, MayTake}
 use Rattle.shared_depot.specs.Sharing.{IsTakenAt}
 use Rattle.shared_depot.proofs.shared.SharedDepot.take_asked.Goals as goal
 
@@ -23,25 +22,16 @@ unwrap-requires g c =
     let tried = subst (IsTried g.N.Naming.rows g.N.Naming.end g.N.Imaging.images g.N.Serving.begins c.args.pass.now c.ready.new.pass (Some c.args.request) c.ready.new.asked) c.in-Ok-Ready.field-0-is c.in-Ok-Ready.ensures.tried in
     subst (λ (o : Option Request). IsSome o) (sym tried.1.0) refl
 
-pub take-requires-clause-room : goal.take-requires-clause-room
-take-requires-clause-room g c =
-    let tried = subst (IsTried g.N.Naming.rows g.N.Naming.end g.N.Imaging.images g.N.Serving.begins c.args.pass.now c.ready.new.pass (Some c.args.request) c.ready.new.asked) c.in-Ok-Ready.field-0-is c.in-Ok-Ready.ensures.tried in
-    subst (HasPlaceLeft g.N.Naming.places) (sym tried.0) c.requires.room
-
 pub take-requires-clause-ready : goal.take-requires-clause-ready
 take-requires-clause-ready g c =
     let tried = subst (IsTried g.N.Naming.rows g.N.Naming.end g.N.Imaging.images g.N.Serving.begins c.args.pass.now c.ready.new.pass (Some c.args.request) c.ready.new.asked) c.in-Ok-Ready.field-0-is c.in-Ok-Ready.ensures.tried in
     subst (λ (r : Request). IsReadyFor g.N.Naming.rows g.N.Naming.end g.N.Imaging.images g.N.Serving.begins r c.in-Ok-Ready.ready) (same_Some _ _ (sym tried.1.0 ∙ c.unwrap.ensures)) tried.1.1
 
-pub take-requires-clause-proper : goal.take-requires-clause-proper
-take-requires-clause-proper g c = λ since start at.
+pub take-requires-clause-may : goal.take-requires-clause-may
+take-requires-clause-may g c =
     let tried = subst (IsTried g.N.Naming.rows g.N.Naming.end g.N.Imaging.images g.N.Serving.begins c.args.pass.now c.ready.new.pass (Some c.args.request) c.ready.new.asked) c.in-Ok-Ready.field-0-is c.in-Ok-Ready.ensures.tried in
-    subst IsProper (same_Some _ _ (sym tried.1.0 ∙ c.unwrap.ensures)) (c.requires.proper since start at)
-
-pub take-requires-clause-party : goal.take-requires-clause-party
-take-requires-clause-party g c =
-    let tried = subst (IsTried g.N.Naming.rows g.N.Naming.end g.N.Imaging.images g.N.Serving.begins c.args.pass.now c.ready.new.pass (Some c.args.request) c.ready.new.asked) c.in-Ok-Ready.field-0-is c.in-Ok-Ready.ensures.tried in
-    ap (λ (r : Request). r.party) (sym (same_Some _ _ (sym tried.1.0 ∙ c.unwrap.ensures))) ∙ (c.requires.party ∙ sym (ap (λ (p : PartyKnown). p.party) tried.0))
+    subst (MayTake g.N.Naming.places g.N.Serving.begins c.ready.new.pass) (same_Some _ _ (sym tried.1.0 ∙ c.unwrap.ensures))
+    (subst (λ (p : PartyKnown). MayTake g.N.Naming.places g.N.Serving.begins p c.args.request) (sym tried.0) c.requires)
 
 pub returns-in-Ok-Ready-clause-taken : goal.returns-in-Ok-Ready-clause-taken
 returns-in-Ok-Ready-clause-taken g c =

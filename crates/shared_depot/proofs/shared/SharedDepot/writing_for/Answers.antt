@@ -11,6 +11,12 @@ use Rattle.shared_depot.specs.Ready.{IsSettled}
 use Rattle.shared_depot.specs.declared.attempts.Settled.{Settled}
 use Rattle.shared_depot.proofs.shared.SharedDepot.writing_for.Goals as goal
 
+pub settle_under-requires-clause-shown : goal.settle_under-requires-clause-shown
+settle_under-requires-clause-shown g c = c.requires.told.set.shown
+
+pub settle_under-requires-clause-end : goal.settle_under-requires-clause-end
+settle_under-requires-clause-end g c = c.requires.told.ends
+
 pub room_for-requires-clause-confirmed : goal.room_for-requires-clause-confirmed
 room_for-requires-clause-confirmed g c = (
   c.args.gathered,
@@ -36,6 +42,6 @@ returns-in-Ok-clause-writing g c = λ request is_found.
       archive = kept_so (IsAtOrder order) (not c.is_empty.result) settled.archive c.kept_where-archive.result kept.kept kept.given (λ yes. so.archive) (λ no. tt);
       without = kept_so (λ (o : Option (MutexGuard (List Taken))). o ≡ None → told.stores ≡ []) (not c.is_empty.result) settled.archive c.kept_where-archive.result kept.kept kept.given (λ yes gone. (so.without gone).1) (λ no gone. c.is_empty.ensures.0 (not-false c.is_empty.result no));
       some = c.requires.some;
-      read = c.requires.read;
-      due = due_after rows end g.N.Imaging.images g.N.Serving.begins order gathered c.args.whole c.args.needs.now request was told c.requires.gathered is_found so.still so.stores;
+      read = c.requires.told.read;
+      due = due_after rows end g.N.Imaging.images g.N.Serving.begins order gathered c.args.whole c.args.needs.now request was told c.requires.told.set is_found so.still so.stores;
     }

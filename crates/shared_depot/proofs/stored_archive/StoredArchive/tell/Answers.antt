@@ -53,20 +53,10 @@ returns-then-not-is_unread-clause-reply g c = λ request number.
 
 -- ---- a content couldn't be read
 
-pub place_quiet-answer-requires-clause-room : goal.place_quiet-answer-requires-clause-room
-place_quiet-answer-requires-clause-room g c =
+pub place_quiet-answer-requires-clause-may : goal.place_quiet-answer-requires-clause-may
+place_quiet-answer-requires-clause-may g c =
     let is = sym c.take.ensures.value ∙ c.unwrap-request.ensures in
-    (subst (λ (o : Option Request). IfSome o (MayTake g.N.Naming.places g.N.Serving.begins c.args.pass.now)) is c.requires.may).room
-
-pub place_quiet-answer-requires-clause-party : goal.place_quiet-answer-requires-clause-party
-place_quiet-answer-requires-clause-party g c =
-    let is = sym c.take.ensures.value ∙ c.unwrap-request.ensures in
-    (subst (λ (o : Option Request). IfSome o (MayTake g.N.Naming.places g.N.Serving.begins c.args.pass.now)) is c.requires.may).party
-
-pub place_quiet-answer-requires-clause-proper : goal.place_quiet-answer-requires-clause-proper
-place_quiet-answer-requires-clause-proper g c =
-    let is = sym c.take.ensures.value ∙ c.unwrap-request.ensures in
-    (subst (λ (o : Option Request). IfSome o (MayTake g.N.Naming.places g.N.Serving.begins c.args.pass.now)) is c.requires.may).proper
+    subst (λ (o : Option Request). IfSome o (MayTake g.N.Naming.places g.N.Serving.begins c.args.pass.now)) is c.requires.may
 
 pub place_quiet-answer-requires-clause-unwritten : goal.place_quiet-answer-requires-clause-unwritten
 place_quiet-answer-requires-clause-unwritten g c = inr (sym c.is_unread.ensures ∙ c.if-not-is_unread.false)

@@ -69,7 +69,7 @@ enter-requires-clause-ran g c = λ order lanes on touches entered.
         committed_then D.says g.N.Naming.rows g.N.Naming.end g.N.Imaging.images g.N.Serving.begins g.N.Serving.masters
             c.self.inside.lane c.self.inside.tables c.self.inside.journal c.self.invariant.0 c.args.request c.args.told
             (subst (λ (l : List Taken). IsDueAfter g.N.Naming.rows g.N.Naming.end g.N.Imaging.images g.N.Serving.begins l c.args.request c.args.told) (sym c.self.view_is) c.requires.due)
-            c.requires.proper c.args.room.after
+            c.requires.may.proper c.args.room.after
             (λ table. c.requires.room.after table ∙ ap (λ (l : List Taken). changed_by (rows_after g.N.Naming.rows l) c.args.told.changes table) (sym c.self.view_is))
             c.place.new.tables c.place.new.journal c.place.ensures.can landed.answer entry refl refl c.in-Ok.ensures.changes c.in-Ok.ensures.rows order on lanes
             g.A.ArchiveLane.is_held landed.stored (λ none. c.in-Ok.ensures.none (c.requires.some none)) c.in-Ok.ensures.end refl c.archive_end.ensures.end
@@ -93,7 +93,7 @@ invariant_of-self-in-Ok g c =
           (committed_then D.says g.N.Naming.rows g.N.Naming.end g.N.Imaging.images g.N.Serving.begins g.N.Serving.masters
           c.self.inside.lane c.self.inside.tables c.self.inside.journal c.self.invariant.0 c.args.request c.args.told
           (subst (λ (l : List Taken). IsDueAfter g.N.Naming.rows g.N.Naming.end g.N.Imaging.images g.N.Serving.begins l c.args.request c.args.told) (sym c.self.view_is) c.requires.due)
-          c.requires.proper c.args.room.after
+          c.requires.may.proper c.args.room.after
           (λ table. c.requires.room.after table ∙ ap (λ (l : List Taken). changed_by (rows_after g.N.Naming.rows l) c.args.told.changes table) (sym c.self.view_is))
           c.place.new.tables c.place.new.journal c.place.ensures.can landed.answer entry refl refl c.in-Ok.ensures.changes c.in-Ok.ensures.rows _ c.enter.ensures.on c.enter.result
           g.A.ArchiveLane.is_held landed.stored (λ none. c.in-Ok.ensures.none (c.requires.some none)) c.in-Ok.ensures.end refl c.archive_end.ensures.end
@@ -123,10 +123,10 @@ returns-in-Ok-clause-taken g c =
     taken_so begins _ c.enter.new.self c.args.pass.now c.enter.new.pass entry c.args.request landed.answer _ c.enter.ensures.placed c.enter.ensures.pass c.enter.ensures.own
     refl refl (λ k. record { place = c.place-at.ensures k; reply = landed.answer.reply })
     (λ since start at. c.in-Ok.ensures.answers start _ c.requires.due.outcome c.requires.due.tells
-    (reply_then D.says rows end images begins g.N.Serving.masters w.lane w.tables w.journal c.self.invariant.0 c.args.request told due c.requires.proper room.after made
+    (reply_then D.says rows end images begins g.N.Serving.masters w.lane w.tables w.journal c.self.invariant.0 c.args.request told due c.requires.may.proper room.after made
     new.tables new.journal c.place.ensures.can landed.answer taken refl refl c.in-Ok.ensures.changes c.in-Ok.ensures.rows _ c.enter.ensures.on c.enter.result since start at))
     (λ touches since start at.
-    changes_then D.says rows end images begins g.N.Serving.masters w.lane w.tables w.journal c.self.invariant.0 c.args.request told due c.requires.proper room.after made
+    changes_then D.says rows end images begins g.N.Serving.masters w.lane w.tables w.journal c.self.invariant.0 c.args.request told due c.requires.may.proper room.after made
     new.tables new.journal c.place.ensures.can landed.answer taken refl refl c.in-Ok.ensures.changes c.in-Ok.ensures.rows _ c.enter.ensures.on c.enter.result c.requires.changes since start at)
 
 pub returns-in-Ok-clause-stored : goal.returns-in-Ok-clause-stored
