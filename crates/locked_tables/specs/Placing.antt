@@ -38,6 +38,12 @@ module _ {N : Type 0} where
     pub asks : taken.request.party ≡ pass.party
     pub next : AllNext rows taken.changes held
 
+-- An entry has the next place behind an order. The party knows all places, and of its own has just that one more.
+pub record TakesPlace (before after : List Taken) (old new : PartyKnown) (entry : Taken) : Type 0 where
+  pub last : after ≡ before ++ entry ∷ []
+  pub pass : new ≡ record old { list = after }
+  pub own : IsOwn old.party old.list before after
+
 -- An entry has the next place, for which no lane is checked any more. The party knows all places, and of its own has just that one more.
 pub record IsPlaced (run : Run) (before after : OrderState Taken) (old new : PartyKnown) (entry : Taken) : Type 0 where
   pub order : after ≡ record before { list = before.list ++ entry ∷ []; checked = [] }

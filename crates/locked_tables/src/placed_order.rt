@@ -1,13 +1,13 @@
 //! What lies behind the lock of the order.
-ghost use Rattle.std.specs.Prelude.{◌≡◌, ◌≤◌, ◌-◌, ◌^◌, ℕ, [], ◌∷◌, ◌++◌, map, if◌then◌else◌, true, not, IfOk, IsTrue};
+ghost use Rattle.std.specs.Prelude.{◌≡◌, ◌≤◌, ◌-◌, ◌^◌, [], map, if◌then◌else◌, true, not, IfOk, IsTrue};
 ghost use Rattle.std.specs.List.{AllByRecursion};
 ghost use mathlib.Core.List.{IsPrefix};
 ghost use Rattle.depot_model.specs.db_records.declared.table.TableId.{TableId};
 ghost use Rattle.table_changes.specs.Changed.{changed_by};
 ghost use Rattle.locked_tables.specs.Held.{AllHaveLearnt, AllNext, AllStill, OnlyChange, lanes_next};
 ghost use Rattle.locked_tables.specs.Known.{GoesOnWithout, HasPlaceLeft, IsStill, all_places, is_touched};
-ghost use Rattle.locked_tables.specs.Placing.{TouchesLanes};
-ghost use Rattle.locked_tables.specs.Taken.{archive_lane, changes_of, end_after, journal_lane, of_party, place_of, rows_after, IsOwn, IsParty};
+ghost use Rattle.locked_tables.specs.Placing.{TakesPlace, TouchesLanes};
+ghost use Rattle.locked_tables.specs.Taken.{archive_lane, changes_of, end_after, journal_lane, of_party, place_of, rows_after, IsParty};
 
 use crate::held_lanes::{ArchiveLane, JournalLane};
 use crate::held_table::HeldTable;
@@ -160,13 +160,11 @@ impl<N: Naming> PlacedOrder<N> {
         requires fits { A.is_held ≡ true → taken.end ≤ 2 ^ 63 - 1 }
         requires next { AllNext N.rows taken.changes held.old }
         requires only { OnlyChange taken.changes (lanes_next held.old) }
-        ensures placed { self.new ≡ self.old ++ record taken { lanes = result } ∷ [] }
+        ensures placed { TakesPlace self.old self.new pass.old pass.new (record taken { lanes = result }) }
         ensures touches { TouchesLanes N.run (record taken { lanes = result }) A.is_held J.is_held pass.old.party (lanes_next held.old) }
         ensures archive { A.Learns self.old self.new archive.old archive.new }
         ensures journal { J.Learns self.old self.new journal.old journal.new }
         ensures rows { (table : TableId) → rows_after N.rows self.new table ≡ changed_by (rows_after N.rows self.old) taken.changes table }
-        ensures pass { pass.new ≡ record pass.old { list = self.new } }
-        ensures own { IsOwn pass.old.party pass.old.list self.old self.new }
         ensures end { end_after N.end self.new ≡ (if A.is_held then taken.end else end_after N.end self.old) }
     {
         let place = taken.place();

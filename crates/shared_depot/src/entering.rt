@@ -2,7 +2,8 @@
 ghost use Rattle.std.specs.Prelude.{◌≡◌, ◌≤◌, ◌-◌, ◌^◌, ◌++◌, ◌∷◌, ℕ, List, [], if◌then◌else◌, true, false};
 ghost use Rattle.depot_rows.specs.db_records.declared.table.TableId.{TableId};
 ghost use Rattle.depot_rows.specs.table_changes.Changed.{changed_by, rows_of};
-ghost use Rattle.locked_tables.specs.Taken.{IsOwn, archive_lane, end_after, rows_after};
+ghost use Rattle.locked_tables.specs.Placing.{TakesPlace};
+ghost use Rattle.locked_tables.specs.Taken.{archive_lane, end_after, rows_after};
 ghost use Rattle.locked_tables.specs.declared.taken.Taken.{Taken as AnyTaken};
 ghost use Rattle.order_words.specs.Lanes.{has_lane};
 ghost use Rattle.shared_depot.specs.Common.{GoesOnQuietly, IsEntered, WasRun};
@@ -50,14 +51,12 @@ impl<D: Disk, N: Serving> CommonDepot<D, N> {
         requires ran { (order : List AnyTaken) (lanes : ℕ) → GoesOnQuietly D.says N.rows N.end N.images N.begins lane.old order →
             has_lane lanes archive_lane ≡ A.is_held → IsEntered N.rows N.end order (record taken { lanes = lanes }) (if A.is_held then taken.end else end_after N.end order) →
             WasRun D.says N.rows N.end N.images N.begins N.masters (order ++ record taken { lanes = lanes } ∷ []) }
-        ensures placed { self.new ≡ self.old ++ record taken { lanes = result } ∷ [] }
+        ensures placed { TakesPlace self.old self.new pass.old pass.new (record taken { lanes = result }) }
         ensures on { GoesOnQuietly D.says N.rows N.end N.images N.begins lane.old self.old }
         ensures lane { lane.new ≡ self.new }
         ensures archive { A.Learns self.old self.new archive.old archive.new }
         ensures of_archive { has_lane result archive_lane ≡ A.is_held }
         ensures entered { IsEntered N.rows N.end self.old (record taken { lanes = result }) (if A.is_held then taken.end else end_after N.end self.old) }
-        ensures pass { pass.new ≡ record pass.old { list = self.new } }
-        ensures own { IsOwn pass.old.party pass.old.list self.old self.new }
     {
         let fault = taken.fault;
         let mut held = prepared;

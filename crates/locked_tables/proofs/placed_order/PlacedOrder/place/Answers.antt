@@ -5,7 +5,7 @@ use Rattle.order_words.specs.Seats.{OrderState}
 use Rattle.table_changes.specs.Changed.{changed_by}
 use Rattle.locked_tables.specs.Held.{lanes_next}
 use Rattle.locked_tables.specs.Known.{all_places}
-use Rattle.locked_tables.specs.Placing.{TouchesLanes}
+use Rattle.locked_tables.specs.Placing.{TakesPlace, TouchesLanes}
 use Rattle.locked_tables.specs.Taken.{end_after, place_of, rows_after}
 use Rattle.locked_tables.specs.declared.taken.Taken.{Taken}
 use Rattle.locked_tables.proofs.Archive.{end_placed}
@@ -48,6 +48,14 @@ invariant_of-self g c =
       subst (λ (n : ℕ). all_places places 16 ≤ n) (sym c.push_reserved.ensures.capacity) c.self.invariant.5,
       touched_next c.self.inside.touched _ order after entry c.places.result last c.places.ensures c.touch_tables.ensures c.self.invariant.6,
     )
+
+pub returns-clause-placed : goal.returns-clause-placed
+returns-clause-placed g c =
+    let after = c.place-lanes.new.order.list in
+    let placed = c.place-lanes.ensures.placed in
+    let entry : Taken = record c.args.taken { lanes = c.place-lanes.result } in
+    subst (λ (l : List Taken). TakesPlace l after c.args.pass.now c.place-lanes.new.pass entry) c.self.view_is
+    (record { last = ap (λ (o : OrderState Taken). o.list) placed.order; pass = placed.pass; own = placed.own })
 
 pub returns-clause-touches : goal.returns-clause-touches
 returns-clause-touches g c = record { of_run = c.place-lanes.ensures.placed.party; below = next_of_tables c.args.held.now; are = c.place-lanes.ensures.lanes }

@@ -34,7 +34,7 @@ invariant_of-self g c =
           let is = due read in
           unwritten.leaves (rows_after rows order) (end_after end order) is.outcome (c.requires.may.proper since start at) (is.stands since start at) is.tells read;
     } in
-    subst (λ (l : List Taken). KeepsOrder D.says rows end images begins g.N.Serving.masters l c.self.inside.tables) (sym c.place.ensures.placed)
+    subst (λ (l : List Taken). KeepsOrder D.says rows end images begins g.N.Serving.masters l c.self.inside.tables) (sym c.place.ensures.placed.last)
     (keeps_quiet D.says rows end images begins g.N.Serving.masters order c.self.inside.tables c.self.invariant entry (of_journal c.place.ensures.touches) quiet)
 
 pub returns-clause-taken : goal.returns-clause-taken
@@ -51,7 +51,7 @@ returns-clause-taken g c =
     let run = c.self.invariant.run in
     let due : c.args.told.unread ≡ false → IsDueAfter rows end images begins order c.args.request c.args.told = λ read.
     subst (λ (l : List Taken). IsDueAfter rows end images begins l c.args.request c.args.told) (sym c.self.view_is) (c.requires.due read) in
-    taken_so begins order c.place.new.self c.args.pass.now c.place.new.pass entry c.args.request answer _ c.place.ensures.placed c.place.ensures.pass c.place.ensures.own
+    taken_so begins order c.place.new.self c.args.pass.now c.place.new.pass entry c.args.request answer _ c.place.ensures.placed.last c.place.ensures.placed.pass c.place.ensures.placed.own
     refl refl (λ k. record { place = c.place-place.ensures k; reply = answer.reply })
     (λ since start at.
     c.place_unwritten-answer.ensures.answers start (map placed_of order) c.requires.tells.0 c.requires.tells.1
@@ -66,7 +66,7 @@ returns-clause-lost g c = λ is.
     let touches : has_lane c.place.result archive_lane ≡ true = of_archive c.place.ensures.touches ∙ is in
     record {
       entry = entry;
-      placed = c.place.ensures.placed ∙ ap (λ (l : List Taken). l ++ entry ∷ []) c.self.view_is;
+      placed = c.place.ensures.placed.last ∙ ap (λ (l : List Taken). l ++ entry ∷ []) c.self.view_is;
       touches = touches;
       unstored = c.new-stores.ensures;
       lost = lost_so entry touches failed failed;

@@ -89,7 +89,7 @@ invariant_of-self-in-Ok g c =
     -- without the archive's lane its disk isn't asked
     let unlost : g.A.ArchiveLane.is_held ≡ false → landed.lost ≡ false = λ none. never_fails (g.S.Store.faults c.args.store.now) (g.S.Store.faults c.place.new.store) landed.lost
     (g.met.S.Store.unfailing c.args.store.now (c.requires.held ∙ none)) (g.met.S.Store.unfailing c.place.new.store (c.requires.held ∙ none)) (λ lost. c.in-Ok.ensures.cause_contents lost c.requires.read) in (
-      subst (λ (l : List Taken). HasRunOrder D.says g.N.Naming.rows g.N.Naming.end g.N.Imaging.images g.N.Serving.begins g.N.Serving.masters l c.place.new.tables c.place.new.journal) (sym (c.enter.ensures.lane ∙ c.enter.ensures.placed))
+      subst (λ (l : List Taken). HasRunOrder D.says g.N.Naming.rows g.N.Naming.end g.N.Imaging.images g.N.Serving.begins g.N.Serving.masters l c.place.new.tables c.place.new.journal) (sym (c.enter.ensures.lane ∙ c.enter.ensures.placed.last))
           (committed_then D.says g.N.Naming.rows g.N.Naming.end g.N.Imaging.images g.N.Serving.begins g.N.Serving.masters
           c.self.inside.lane c.self.inside.tables c.self.inside.journal c.self.invariant.0 c.args.request c.args.told
           (subst (λ (l : List Taken). IsDueAfter g.N.Naming.rows g.N.Naming.end g.N.Imaging.images g.N.Serving.begins l c.args.request c.args.told) (sym c.self.view_is) c.requires.due)
@@ -98,7 +98,7 @@ invariant_of-self-in-Ok g c =
           c.place.new.tables c.place.new.journal c.place.ensures.can landed.answer entry refl refl c.in-Ok.ensures.changes c.in-Ok.ensures.rows _ c.enter.ensures.on c.enter.result
           g.A.ArchiveLane.is_held landed.stored (λ none. c.in-Ok.ensures.none (c.requires.some none)) c.in-Ok.ensures.end refl c.archive_end.ensures.end
           c.enter.ensures.of_archive c.enter.ensures.entered c.in-Ok.ensures.ran c.in-Ok.ensures.grows),
-      subst (λ (l : List Taken). IsCountAfter is_unwritten g.N.Serving.faults now l c.self.inside.marks.list) (sym (c.enter.ensures.lane ∙ c.enter.ensures.placed))
+      subst (λ (l : List Taken). IsCountAfter is_unwritten g.N.Serving.faults now l c.self.inside.marks.list) (sym (c.enter.ensures.lane ∙ c.enter.ensures.placed.last))
           (count_placed is_unwritten g.N.Serving.faults before now order placed c.self.inside.marks.list c.place.ensures.never_falls
           (λ failed. let only = unwritten_only g.A.ArchiveLane.is_held placed c.enter.ensures.of_archive unlost failed in c.in-Ok.ensures.cause only.0 only.1) c.in-Ok.ensures.only
           (count_quietly g.N.Serving.faults before c.self.inside.lane order c.self.inside.marks.list c.enter.ensures.on c.self.invariant.1)),
@@ -120,7 +120,7 @@ returns-in-Ok-clause-taken g c =
     let entry : Taken = record taken { lanes = c.enter.result } in
     let due = subst (λ (l : List Taken). IsDueAfter rows end images begins l c.args.request told) (sym c.self.view_is) c.requires.due in
     let made : (table : TableId) → rows_of room.after table ≡ changed_by (rows_after rows w.lane) told.changes table = λ table. c.requires.room.after table ∙ ap (λ (l : List Taken). changed_by (rows_after rows l) told.changes table) (sym c.self.view_is) in
-    taken_so begins _ c.enter.new.self c.args.pass.now c.enter.new.pass entry c.args.request landed.answer _ c.enter.ensures.placed c.enter.ensures.pass c.enter.ensures.own
+    taken_so begins _ c.enter.new.self c.args.pass.now c.enter.new.pass entry c.args.request landed.answer _ c.enter.ensures.placed.last c.enter.ensures.placed.pass c.enter.ensures.placed.own
     refl refl (λ k. record { place = c.place-at.ensures k; reply = landed.answer.reply })
     (λ since start at. c.in-Ok.ensures.answers start _ c.requires.due.outcome c.requires.due.tells
     (reply_then D.says rows end images begins g.N.Serving.masters w.lane w.tables w.journal c.self.invariant.0 c.args.request told due c.requires.may.proper room.after made
@@ -134,4 +134,4 @@ returns-in-Ok-clause-stored g c =
     let landed = c.in-Ok.landed in
     let entry : Taken = record { request = c.args.request; fault = landed.answer.place.fault; lost = landed.lost; lanes = c.enter.result; changes = landed.changes; end = c.archive_end.result; stores = landed.stored } in
     stored_behind g.A.ArchiveLane.Learns _ g.S.Store.stores g.S.Store.faults _ c.enter.new.self entry c.args.lane.now c.enter.new.archive c.args.store.now c.place.new.store
-    c.enter.ensures.placed c.enter.ensures.archive c.enter.ensures.of_archive c.in-Ok.ensures.stores (λ lost. c.in-Ok.ensures.cause_contents (lost_of entry lost) c.requires.read) c.in-Ok.ensures.only_contents
+    c.enter.ensures.placed.last c.enter.ensures.archive c.enter.ensures.of_archive c.in-Ok.ensures.stores (λ lost. c.in-Ok.ensures.cause_contents (lost_of entry lost) c.requires.read) c.in-Ok.ensures.only_contents
