@@ -30,9 +30,10 @@ use std::alloc::{AllocError, Global};
 use std::marker::Brand;
 
 impl<D: Disk> SerialDepot<D> {
-    /// Gives the command of a request its place, whose outcome these tables tell; the tables after its changes may be given. A command that would
-    /// change a row with a number that no text says is answered as want of memory, before any call of a disk.
-    fn take_outcome<G: Gate>(
+    /// Gives the command of a request its place, whose outcome was found in tables with the same rows, as [`command_core::evaluate`] does; the tables after
+    /// its changes may be given. The one error is want of memory, and then nothing is done; a command that would change a row with a number that no text
+    /// says is answered so too, before any call of a disk. The command may be held back at the gate.
+    pub fn place_outcome<G: Gate>(
         &mut self,
         alloc: Global,
         gate: &G,
@@ -53,11 +54,15 @@ impl<D: Disk> SerialDepot<D> {
         ensures rows { IfSome changed (λ given. rows_of given ≡ changed_by (rows_of self.old.tables) outcome.changes) →
             IfOk result (λ answer. AreRowsAfter (rows_of self.old.tables) outcome.changes answer.place.fault (rows_of self.new.tables)) }
         ensures same_tables { OnErr result (self.new.tables ≡ self.old.tables) }
+        // The journal has one group more, or the next generation where the request opens one; at a fault, and without changes, it has the groups that it had.
         ensures grows { (d : List Deed) (c : Chronicle) → Stand (rows_of self.old.tables) d → IsProper request.now → IsOutcomeOf (rows_of self.old.tables) self.old.tables.archive_end request.now outcome →
             HasGroups D.says self.old.journal c → IfOk result (λ answer. HasGroups D.says self.new.journal (grown (opens_generation request.now) answer.place.fault outcome.changes c)) }
         ensures same_journal { OnErr result (self.new.journal ≡ self.old.journal) }
+        // What lies in the archive below the end of what was used stays.
         ensures stored { KeepsStored D.says self.old.archive self.new.archive }
+        // With nothing to store the contents in the archive end where they did.
         ensures end { outcome.stores ≡ [] → self.new.tables.archive_end ≡ self.old.tables.archive_end }
+        // An outcome without changes makes no call of the journal's disk, and none of the archive's where it waits for no content.
         ensures no_write { outcome.changes ≡ [] → (self.new.journal ≡ self.old.journal) × (self.new.tables ≡ self.old.tables) }
         ensures no_call { outcome.changes ≡ [] → outcome.reads ≡ [] → self.new ≡ self.old }
         ensures never_falls { D.says.faults (disk_of self.old.journal) ≤ D.says.faults (disk_of self.new.journal) }
@@ -90,51 +95,6 @@ impl<D: Disk> SerialDepot<D> {
             }
             Err(error) => Err(error),
         }
-    }
-
-    /// Gives the command of a request its place, whose outcome was found in tables with the same rows, as [`command_core::evaluate`] does; these are the
-    /// tables after its changes. The one error is want of memory, and then nothing is done. The command may be held back at the gate.
-    pub fn place_outcome<G: Gate>(
-        &mut self,
-        alloc: Global,
-        gate: &G,
-        request: &Request,
-        outcome: Outcome,
-        changed: Tables,
-    ) -> Result<Answer, AllocError>
-        requires { CanTake D.says self.old }
-        ensures can { CanTake D.says self.new }
-        ensures ran { (since : ℕ) (start : List Deed) (places : List Placed) → HasRun D.says self.old since start places → IsProper request.now →
-            IsOutcomeOf (rows_of self.old.tables) self.old.tables.archive_end request.now outcome → rows_of changed ≡ changed_by (rows_of self.old.tables) outcome.changes →
-            IfOk result (λ answer. HasRun D.says self.new since start (with_place places request.now answer)) }
-        ensures answers { (since : ℕ) (start : List Deed) (places : List Placed) → HasRun D.says self.old since start places →
-            IsOutcomeOf (rows_of self.old.tables) self.old.tables.archive_end request.now outcome → IfOk result (Answers start places request.now) }
-        ensures nothing { (since : ℕ) (start : List Deed) (places : List Placed) → HasRun D.says self.old since start places →
-            OnErr result (HasRun D.says self.new since start places) }
-        ensures rows { rows_of changed ≡ changed_by (rows_of self.old.tables) outcome.changes →
-            IfOk result (λ answer. AreRowsAfter (rows_of self.old.tables) outcome.changes answer.place.fault (rows_of self.new.tables)) }
-        ensures same_tables { OnErr result (self.new.tables ≡ self.old.tables) }
-        // The journal has one group more, or the next generation where the request opens one; at a fault, and without changes, it has the groups that it had.
-        ensures grows { (d : List Deed) (c : Chronicle) → Stand (rows_of self.old.tables) d → IsProper request.now → IsOutcomeOf (rows_of self.old.tables) self.old.tables.archive_end request.now outcome →
-            HasGroups D.says self.old.journal c → IfOk result (λ answer. HasGroups D.says self.new.journal (grown (opens_generation request.now) answer.place.fault outcome.changes c)) }
-        ensures same_journal { OnErr result (self.new.journal ≡ self.old.journal) }
-        // What lies in the archive below the end of what was used stays.
-        ensures stored { KeepsStored D.says self.old.archive self.new.archive }
-        // With nothing to store the contents in the archive end where they did.
-        ensures end { outcome.stores ≡ [] → self.new.tables.archive_end ≡ self.old.tables.archive_end }
-        // A command after which no row differs makes no call of the journal's disk, and none of the archive's where it prints no content.
-        ensures no_write { (d : List Deed) → Stand (rows_of self.old.tables) d → IsOutcomeOf (rows_of self.old.tables) self.old.tables.archive_end request.now outcome →
-            SameRows d (after d (step d request.now).deeds) → (self.new.journal ≡ self.old.journal) × (self.new.tables ≡ self.old.tables) }
-        ensures no_call { (d : List Deed) → Stand (rows_of self.old.tables) d → IsOutcomeOf (rows_of self.old.tables) self.old.tables.archive_end request.now outcome →
-            SameRows d (after d (step d request.now).deeds) → contents_of (step d request.now).rows ≡ [] → self.new ≡ self.old }
-        ensures never_falls { D.says.faults (disk_of self.old.journal) ≤ D.says.faults (disk_of self.new.journal) }
-        ensures never_falls_contents { D.says.faults (archive_disk_of self.old.archive) ≤ D.says.faults (archive_disk_of self.new.archive) }
-        // Where the place isn't that of a fault, and where memory was wanting, no call of a disk failed.
-        ensures only { IfOk result (λ answer. answer.place.fault ≡ false → HaveStood D.says self.old self.new) }
-        ensures no_memory { OnErr result (HaveStood D.says self.old self.new) }
-        ensures cause { IfOk result (λ answer. answer.place.fault ≡ true → HasRisen (D.says.faults (disk_of self.old.journal)) (D.says.faults (disk_of self.new.journal)) ⊎ HasRisen (D.says.faults (archive_disk_of self.old.archive)) (D.says.faults (archive_disk_of self.new.archive))) }
-    {
-        self.take_outcome(alloc, gate, request, outcome, Some(changed))
     }
 
     /// Takes the command of a request, and gives its place and its reply. The one error is want of memory, and then nothing is done. The command may be
@@ -170,7 +130,7 @@ impl<D: Disk> SerialDepot<D> {
         ensures cause { IfOk result (λ answer. answer.place.fault ≡ true → HasRisen (D.says.faults (disk_of self.old.journal)) (D.says.faults (disk_of self.new.journal)) ⊎ HasRisen (D.says.faults (archive_disk_of self.old.archive)) (D.says.faults (archive_disk_of self.new.archive))) }
     {
         let outcome = evaluate(alloc, &self.tables, request)?;
-        let answer = self.take_outcome(alloc, gate, request, outcome, None)?;
+        let answer = self.place_outcome(alloc, gate, request, outcome, None)?;
         Ok(answer)
     }
 }

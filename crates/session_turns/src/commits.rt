@@ -77,7 +77,7 @@ pub(crate) fn place_commit<D: Disk, G: Gate>(
             return Err(error);
         }
     };
-    match depot.place_outcome(alloc, gate, request, outcome, changed) {
+    match depot.place_outcome(alloc, gate, request, outcome, Some(changed)) {
         Ok(answer) => {
             order.push(answer.place).unwrap();
             Ok(answer)

@@ -30,14 +30,14 @@ returns-clause-no_write g c = λ d stand proper same.
     let rows = rows_of c.args.self.now.tables in
     let request = c.args.request.now in
     let is = c.in_ok-outcome.ensures.outcome d stand.sound (formed_of request proper) (has_needed rows d request stand) in
-    c.take_outcome.ensures.no_write (no_changes rows d (after d (step d request).deeds) c.in_ok-outcome.outcome.changes stand same is.changes)
+    c.place_outcome.ensures.no_write (no_changes rows d (after d (step d request).deeds) c.in_ok-outcome.outcome.changes stand same is.changes)
 
 pub returns-clause-no_call : goal.returns-clause-no_call
 returns-clause-no_call g c = λ d stand proper same none.
     let rows = rows_of c.args.self.now.tables in
     let request = c.args.request.now in
     let is = c.in_ok-outcome.ensures.outcome d stand.sound (formed_of request proper) (has_needed rows d request stand) in
-    c.take_outcome.ensures.no_call (no_changes rows d (after d (step d request).deeds) c.in_ok-outcome.outcome.changes stand same is.changes)
+    c.place_outcome.ensures.no_call (no_changes rows d (after d (step d request).deeds) c.in_ok-outcome.outcome.changes stand same is.changes)
     (none_read rows d c.in_ok-outcome.outcome.reads (step d request).rows is.reads none)
 
 pub returns-clause-grows : goal.returns-clause-grows
@@ -69,12 +69,12 @@ returns-in_err-answer-clause-no_write g c = λ d stand proper same.
     let rows = rows_of c.args.self.now.tables in
     let request = c.args.request.now in
     let is = c.in_ok-outcome.ensures.outcome d stand.sound (formed_of request proper) (has_needed rows d request stand) in
-    c.take_outcome.ensures.no_write (no_changes rows d (after d (step d request).deeds) c.in_ok-outcome.outcome.changes stand same is.changes)
+    c.place_outcome.ensures.no_write (no_changes rows d (after d (step d request).deeds) c.in_ok-outcome.outcome.changes stand same is.changes)
 
 pub returns-in_err-answer-clause-no_call : goal.returns-in_err-answer-clause-no_call
 returns-in_err-answer-clause-no_call g c = λ d stand proper same none.
     let rows = rows_of c.args.self.now.tables in
     let request = c.args.request.now in
     let is = c.in_ok-outcome.ensures.outcome d stand.sound (formed_of request proper) (has_needed rows d request stand) in
-    c.take_outcome.ensures.no_call (no_changes rows d (after d (step d request).deeds) c.in_ok-outcome.outcome.changes stand same is.changes)
+    c.place_outcome.ensures.no_call (no_changes rows d (after d (step d request).deeds) c.in_ok-outcome.outcome.changes stand same is.changes)
     (none_read rows d c.in_ok-outcome.outcome.reads (step d request).rows is.reads none)

@@ -1,5 +1,5 @@
 use Rattle.archive_file.specs.Archive.{disk_of}
-use Rattle.serial_depot.proofs.depot.SerialDepot.take_outcome.Given as goal
+use Rattle.serial_depot.proofs.depot.SerialDepot.place_outcome.Given as goal
 
 -- the images that the archive's disk may leave before contents are stored
 abbrev pub ghosts-place : goal.ghosts-place
