@@ -2,6 +2,7 @@
 use Rattle.std.proofs.Common.{◌≡◌, ℕ, Bool, true, false, List, [], ◌∷◌, ◌++◌, refl, sym, ap, subst, ◌∙◌, ⊎_elim}
 use Rattle.std.specs.Prelude.{if◌then◌else◌}
 use Rattle.std.proofs.lemmas.Bool.{true≢false}
+use Rattle.outside_api.specs.Count.{HasRisen}
 use Rattle.outside_api.specs.Disk.{Files}
 use Rattle.outside_api.specs.Says.{DiskSays}
 use Rattle.command_core.specs.declared.outcome.Outcome.{Outcome}
@@ -17,8 +18,9 @@ use Rattle.session_loop.specs.Taking.{IsProper, placed_by, with_place}
 use Rattle.sound_requests.specs.Asked.{is_typed}
 use Rattle.depot_commit.specs.Committing.{AreChangesOf, AreRowsAfter, IsOutcomeOf}
 use Rattle.depot_commit.specs.Growing.{Chronicle, HasGroups, grown}
-use Rattle.depot_commit.specs.Placing.{HasRunBeside}
+use Rattle.depot_commit.specs.Placing.{AreCounted, HasLanded, HasRunBeside}
 use Rattle.depot_commit.specs.Running.{HasRunOver}
+use Rattle.depot_commit.specs.Storing.{stores_end}
 use Rattle.depot_commit.specs.Telling.{IsTold, IsUnwritten}
 use Rattle.depot_commit.specs.declared.landing.Landed.{Landed}
 use Rattle.depot_commit.specs.declared.telling.Told.{Told}
@@ -88,3 +90,26 @@ module _ (landed : Landed) (f : Bool) (fault : landed.answer.place.fault ≡ f) 
         let Ran : List (List ℕ) → Bool → Type 0 = λ stored b. HasRunBeside disk_says images from (before ++ stored) tables journal since start (places ++ placed_by request b ∷ []) in
         subst (λ (stored : List (List ℕ)). Ran stored landed.answer.place.fault) (sym none)
         (subst (Ran []) (sym fault) (beside_same disk_says images from tables journal since start (places ++ placed_by request f ∷ []) before h))
+
+module _ (told : Told) (landed : Landed) where
+  -- as much of the store is used as was
+  pub landed_nothing : {S : Type 0} (stores : List (List ℕ) → S → S → Type 0) (used : ℕ) (old new : S) → (landed.changes ≡ []) × (landed.stored ≡ []) → [] ≡ (if landed.answer.place.fault then [] else told.changes)
+      → stores [] old new → HasLanded stores told landed used used old new
+  landed_nothing stores used old new nothing unchanged unstored = record {
+    stored = subst (λ (l : List (List ℕ)). stores l old new) (sym nothing.1) unstored;
+    end = ap (λ (l : List (List ℕ)). stores_end l used) (sym nothing.1);
+    none = λ none. nothing.1;
+    changes = nothing.0 ∙ unchanged;
+  }
+
+  -- a disk failed
+  pub counted_fault : (before now contents_before contents_now : ℕ) → landed.answer.place.fault ≡ true → (landed.lost ≡ false → HasRisen before now)
+      → (landed.lost ≡ true → HasRisen contents_before contents_now) → AreCounted told landed before now contents_before contents_now
+  counted_fault before now contents_before contents_now fault risen risen_contents = record {
+    only = λ whole. absurd (true≢false (sym fault ∙ whole));
+    only_contents = λ whole. absurd (true≢false (sym fault ∙ whole));
+    read = λ whole. absurd (true≢false (sym fault ∙ whole));
+    cause = λ failed kept. risen kept;
+    cause_contents = λ lost whole. risen_contents lost;
+    lost = λ lost. fault;
+  }

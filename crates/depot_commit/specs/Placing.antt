@@ -1,5 +1,6 @@
 -- Giving a command its place over the parts of a depot in files. This project's own choice.
-use Rattle.std.specs.Prelude.{◌≡◌, ℕ, List}
+use Rattle.std.specs.Prelude.{◌≡◌, ℕ, true, false, List, [], if◌then◌else◌}
+use Rattle.outside_api.specs.Count.{HasRisen}
 use Rattle.outside_api.specs.Disk.{Files, StillTells}
 use Rattle.outside_api.specs.Says.{DiskSays}
 use Rattle.archive_file.specs.Archive.{disk_of, used_of}
@@ -15,6 +16,8 @@ use Rattle.depot_rows.specs.table_store.declared.tables.Tables.{Tables}
 use Rattle.disk_journal.specs.declared.journal.Journal.{Journal}
 use Rattle.depot_commit.specs.Running.{HasRunOver}
 use Rattle.depot_commit.specs.Storing.{AllReach, AllStored, HasStored, KeepsBelow, stores_end}
+use Rattle.depot_commit.specs.declared.landing.Landed.{Landed}
+use Rattle.depot_commit.specs.declared.telling.Told.{Told}
 
 -- The run beside an archive whose disk might leave these images when it was used up to a place, and in which these contents were stored since.
 abbrev pub HasRunBeside : {D : Type 0} → DiskSays D → (Files → Type 0) → ℕ → List (List ℕ) → Tables → Journal D → ℕ → List Deed → List Placed → Type 0
@@ -31,6 +34,24 @@ pub record StoresBehind {D : Type 0} (disk_says : DiskSays D) (stored : List (Li
   pub all : AllStored (disk_says.may_leave (disk_of new)) stored (used_of old)
   pub room : AllReach (disk_says.may_leave (disk_of new)) (used_of new)
   pub tells : StillTells (disk_says.seen (disk_of old)) (disk_says.seen (disk_of new))
+
+-- A command has its place: what it stored is behind what was used, and counts as used, and with nothing to store nothing is stored; it changed what is told, unless
+-- the place is that of a fault.
+pub record HasLanded {S : Type 0} (stores : List (List ℕ) → S → S → Type 0) (told : Told) (landed : Landed) (used used_now : ℕ) (store store_now : S) : Type 0 where
+  pub stored : stores landed.stored store store_now
+  pub end : used_now ≡ stores_end landed.stored used
+  pub none : told.stores ≡ [] → landed.stored ≡ []
+  pub changes : landed.changes ≡ (if landed.answer.place.fault then [] else told.changes)
+
+-- What a place says of the counts of the disks of the journal and of the archive. Where it isn't that of a fault, no call failed, and all contents were read.
+-- Where it is and the archive's disk didn't fail, the journal's did. Where that failed after all contents were read, its count has risen.
+pub record AreCounted (told : Told) (landed : Landed) (before now contents_before contents_now : ℕ) : Type 0 where
+  pub only : landed.answer.place.fault ≡ false → now ≡ before
+  pub only_contents : landed.answer.place.fault ≡ false → contents_now ≡ contents_before
+  pub read : landed.answer.place.fault ≡ false → told.unread ≡ false
+  pub cause : landed.answer.place.fault ≡ true → landed.lost ≡ false → HasRisen before now
+  pub cause_contents : landed.lost ≡ true → told.unread ≡ false → HasRisen contents_before contents_now
+  pub lost : landed.lost ≡ true → landed.answer.place.fault ≡ true
 
 -- a request leaves the rows of each depot that has these rows
 abbrev pub LeavesRows : AllRows → Request → Type 0

@@ -1,8 +1,7 @@
 //! Giving a command its place over the parts of a depot in files.
 
-ghost use Rattle.std.specs.Prelude.{◌≡◌, ◌≤◌, ◌++◌, ℕ, List, [], true, false, None, IfOk, IfSome, OnErr, if◌then◌else◌};
+ghost use Rattle.std.specs.Prelude.{◌≡◌, ◌≤◌, ◌++◌, ℕ, List, [], false, None, IfOk, IfSome, OnErr, if◌then◌else◌};
 ghost use Rattle.command_core.specs.declared.outcome.Outcome.{Outcome};
-ghost use Rattle.outside_api.specs.Count.{HasRisen};
 ghost use Rattle.depot_rows.specs.Standing.{Stand};
 ghost use Rattle.depot_rows.specs.depot_model.Deeds.{Deed};
 ghost use Rattle.depot_rows.specs.depot_model.Places.{Placed, taken};
@@ -13,7 +12,7 @@ ghost use Rattle.session_loop.specs.Taking.{Answers, IsProper, place_by, with_pl
 ghost use Rattle.depot_commit.specs.Committing.{AreRowsAfter, IsOutcomeOf, IsToldAt};
 ghost use Rattle.depot_commit.specs.Growing.{Chronicle, HasGroups, grown};
 ghost use Rattle.depot_commit.specs.Opening.{opens_generation};
-ghost use Rattle.depot_commit.specs.Placing.{HasRunBeside};
+ghost use Rattle.depot_commit.specs.Placing.{AreCounted, HasLanded, HasRunBeside};
 ghost use Rattle.depot_commit.specs.Running.{CanCommit};
 ghost use Rattle.depot_commit.specs.Storing.{stores_end};
 ghost use Rattle.depot_commit.specs.Telling.{IsReplyOf, IsTold};
@@ -172,9 +171,7 @@ pub fn place<D: Disk, S: Store, I: Imaging>(
     ensures can { CanCommit D.says journal.new }
     ensures used { S.ends_at store.new tables.new.archive_end }
     ensures nothing { OnErr result ((tables.new ≡ tables.old) × (journal.new ≡ journal.old) × (store.new ≡ store.old)) }
-    ensures stores { IfOk result (λ landed. S.stores landed.stored store.old store.new) }
-    ensures end { IfOk result (λ landed. tables.new.archive_end ≡ stores_end landed.stored tables.old.archive_end) }
-    ensures changes { IfOk result (λ landed. landed.changes ≡ (if landed.answer.place.fault then [] else told.changes)) }
+    ensures landed { IfOk result (λ landed. HasLanded S.stores told landed tables.old.archive_end tables.new.archive_end store.old store.new) }
     // Where the tables and the journal have run places beside an archive in which contents were stored since a moment, they have run one more after it,
     // beside the archive in which these contents were stored too.
     ensures ran { (from : ℕ) (before : List (List ℕ)) (since : ℕ) (start : List Deed) (places : List Placed) (outcome : Outcome) →
@@ -192,16 +189,9 @@ pub fn place<D: Disk, S: Store, I: Imaging>(
     ensures no_call { told.changes ≡ [] → (tables.new ≡ tables.old) × (journal.new ≡ journal.old) × (store.new ≡ store.old) }
     ensures never_falls { D.says.faults (disk_of journal.old) ≤ D.says.faults (disk_of journal.new) }
     ensures never_falls_contents { S.faults store.old ≤ S.faults store.new }
-    // Where the place isn't that of a fault, no call of a disk failed, and all contents were read; so they were where memory was wanting.
-    ensures only { IfOk result (λ landed. landed.answer.place.fault ≡ false → D.says.faults (disk_of journal.new) ≡ D.says.faults (disk_of journal.old)) }
-    ensures only_contents { IfOk result (λ landed. landed.answer.place.fault ≡ false → S.faults store.new ≡ S.faults store.old) }
-    ensures read { IfOk result (λ landed. landed.answer.place.fault ≡ false → told.unread ≡ false) }
+    ensures counted { IfOk result (λ landed. AreCounted told landed (D.says.faults (disk_of journal.old)) (D.says.faults (disk_of journal.new)) (S.faults store.old) (S.faults store.new)) }
+    // All contents were read where memory was wanting.
     ensures no_memory { OnErr result (told.unread ≡ false) }
-    ensures cause { IfOk result (λ landed. landed.answer.place.fault ≡ true → landed.lost ≡ false → HasRisen (D.says.faults (disk_of journal.old)) (D.says.faults (disk_of journal.new))) }
-    ensures cause_contents { IfOk result (λ landed. landed.lost ≡ true → told.unread ≡ false → HasRisen (S.faults store.old) (S.faults store.new)) }
-    ensures lost { IfOk result (λ landed. landed.lost ≡ true → landed.answer.place.fault ≡ true) }
-    // With nothing to store nothing is stored.
-    ensures none { told.stores ≡ [] → IfOk result (λ landed. landed.stored ≡ []) }
 {
     requests_are_typed(request);
     if told.is_unwritten() {

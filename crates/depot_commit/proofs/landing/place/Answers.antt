@@ -23,7 +23,7 @@ use Rattle.depot_commit.proofs.Growing.{grown_fault, grown_some, same_groups, wr
 use Rattle.depot_commit.proofs.Moved.{over_settled}
 use Rattle.depot_commit.proofs.Outcomes.{answers, told_changes, told_fits, told_placed}
 use Rattle.depot_commit.proofs.Beside.{beside_more, rows_so}
-use Rattle.depot_commit.proofs.Idle.{grown_unwritten, none_kept, nothing_grows, nothing_ran, nothing_rows, ran_unwritten, rows_unwritten}
+use Rattle.depot_commit.proofs.Idle.{counted_fault, grown_unwritten, landed_nothing, none_kept, nothing_grows, nothing_ran, nothing_rows, ran_unwritten, rows_unwritten}
 use Rattle.depot_commit.proofs.Writings.{can_write, no_doubt, same_generation}
 use Rattle.depot_commit.proofs.landing.place.Goals as goal
 
@@ -50,18 +50,12 @@ set_archive_end-requires g c = let fits = c.in-Ok-store.ensures.fits in omega (a
 
 -- ---- nothing is written
 
-pub returns-then-is_unwritten-clause-stores : goal.returns-then-is_unwritten-clause-stores
-returns-then-is_unwritten-clause-stores g c =
-    subst (λ (stored : List (List ℕ)). g.S.Store.stores stored c.args.store.now c.args.store.now) (sym c.land_nothing.ensures.nothing.1) (g.met.S.Store.none_stored c.args.store.now c.args.tables.now.archive_end c.requires.used)
-
-pub returns-then-is_unwritten-clause-end : goal.returns-then-is_unwritten-clause-end
-returns-then-is_unwritten-clause-end g c = ap (λ (stored : List (List ℕ)). stores_end stored c.args.tables.now.archive_end) (sym c.land_nothing.ensures.nothing.1)
-
-pub returns-then-is_unwritten-clause-changes : goal.returns-then-is_unwritten-clause-changes
-returns-then-is_unwritten-clause-changes g c =
+pub returns-then-is_unwritten-clause-landed : goal.returns-then-is_unwritten-clause-landed
+returns-then-is_unwritten-clause-landed g c =
     let told = c.args.told in
-    let none = none_kept told (c.is_unwritten.ensures.unwritten c.if-is_unwritten.true) in
-    c.land_nothing.ensures.nothing.0 ∙ (none ∙ ap (λ (fault : Bool). if fault then [] else told.changes) (sym (c.land_nothing.ensures.fault ∙ c.is_unread-lost.ensures)))
+    let kept = none_kept told (c.is_unwritten.ensures.unwritten c.if-is_unwritten.true) ∙ ap (λ (fault : Bool). if fault then [] else told.changes) (sym (c.land_nothing.ensures.fault ∙ c.is_unread-lost.ensures)) in
+    landed_nothing told c.land_nothing.result g.S.Store.stores c.args.tables.now.archive_end c.args.store.now c.args.store.now c.land_nothing.ensures.nothing kept
+    (g.met.S.Store.none_stored c.args.store.now c.args.tables.now.archive_end c.requires.used)
 
 pub returns-then-is_unwritten-clause-ran : goal.returns-then-is_unwritten-clause-ran
 returns-then-is_unwritten-clause-ran g c = λ from before since start places outcome h same proper is t given.
@@ -95,20 +89,17 @@ returns-then-is_unwritten-clause-grows g c = λ d all outcome stand proper is t 
     (nothing_grows c.land_nothing.result told.unread (c.land_nothing.ensures.fault ∙ c.is_unread-lost.ensures) c.land_nothing.ensures.nothing.1 g.D.Disk.says c.args.journal.now opens told.changes all
     (grown_unwritten told (c.is_unwritten.ensures.unwritten c.if-is_unwritten.true) opens all) has)
 
-pub returns-then-is_unwritten-clause-read : goal.returns-then-is_unwritten-clause-read
-returns-then-is_unwritten-clause-read g c = λ whole. sym c.is_unread-lost.ensures ∙ (sym c.land_nothing.ensures.fault ∙ whole)
-
-pub returns-then-is_unwritten-clause-cause : goal.returns-then-is_unwritten-clause-cause
-returns-then-is_unwritten-clause-cause g c = λ fault kept. absurd (true≢false (sym fault ∙ (c.land_nothing.ensures.fault ∙ (sym c.land_nothing.ensures.lost ∙ kept))))
-
-pub returns-then-is_unwritten-clause-cause_contents : goal.returns-then-is_unwritten-clause-cause_contents
-returns-then-is_unwritten-clause-cause_contents g c = λ lost whole. absurd (true≢false (sym lost ∙ (c.land_nothing.ensures.lost ∙ (c.is_unread-lost.ensures ∙ whole))))
-
-pub returns-then-is_unwritten-clause-lost : goal.returns-then-is_unwritten-clause-lost
-returns-then-is_unwritten-clause-lost g c = λ lost. c.land_nothing.ensures.fault ∙ (sym c.land_nothing.ensures.lost ∙ lost)
-
-pub returns-then-is_unwritten-clause-none : goal.returns-then-is_unwritten-clause-none
-returns-then-is_unwritten-clause-none g c = λ none. c.land_nothing.ensures.nothing.1
+pub returns-then-is_unwritten-clause-counted : goal.returns-then-is_unwritten-clause-counted
+returns-then-is_unwritten-clause-counted g c =
+    let landing = c.land_nothing.ensures in
+    record {
+      only = λ whole. refl;
+      only_contents = λ whole. refl;
+      read = λ whole. sym c.is_unread-lost.ensures ∙ (sym landing.fault ∙ whole);
+      cause = λ failed kept. absurd (true≢false (sym failed ∙ (landing.fault ∙ (sym landing.lost ∙ kept))));
+      cause_contents = λ lost whole. absurd (true≢false (sym lost ∙ (landing.lost ∙ (c.is_unread-lost.ensures ∙ whole))));
+      lost = λ lost. landing.fault ∙ (sym landing.lost ∙ lost);
+    }
 
 pub returns-in-Err-clause-no_memory : goal.returns-in-Err-clause-no_memory
 returns-in-Err-clause-no_memory g c = c.is_unwritten.ensures.read c.if-is_unwritten.false
@@ -121,15 +112,11 @@ returns-in-Err-clause-no_call g c = λ none. (refl, refl, refl)
 pub returns-in-Err-settle-clause-can : goal.returns-in-Err-settle-clause-can
 returns-in-Err-settle-clause-can g c = let can = c.requires.can in (can.0, (can.1.0, c.in-Err-settle.ensures.err can.0 can.1.0 can.1.1 refl))
 
-pub returns-in-Err-settle-clause-stores : goal.returns-in-Err-settle-clause-stores
-returns-in-Err-settle-clause-stores g c =
-    subst (λ (stored : List (List ℕ)). g.S.Store.stores stored c.args.store.now c.args.store.now) (sym c.land_nothing-in-Err-settle.ensures.nothing.1) (g.met.S.Store.none_stored c.args.store.now c.args.tables.now.archive_end c.requires.used)
-
-pub returns-in-Err-settle-clause-end : goal.returns-in-Err-settle-clause-end
-returns-in-Err-settle-clause-end g c = ap (λ (stored : List (List ℕ)). stores_end stored c.args.tables.now.archive_end) (sym c.land_nothing-in-Err-settle.ensures.nothing.1)
-
-pub returns-in-Err-settle-clause-changes : goal.returns-in-Err-settle-clause-changes
-returns-in-Err-settle-clause-changes g c = c.land_nothing-in-Err-settle.ensures.nothing.0 ∙ ap (λ (fault : Bool). if fault then [] else c.args.told.changes) (sym c.land_nothing-in-Err-settle.ensures.fault)
+pub returns-in-Err-settle-clause-landed : goal.returns-in-Err-settle-clause-landed
+returns-in-Err-settle-clause-landed g c =
+    let landing = c.land_nothing-in-Err-settle.ensures in
+    landed_nothing c.args.told c.land_nothing-in-Err-settle.result g.S.Store.stores c.args.tables.now.archive_end c.args.store.now c.args.store.now landing.nothing
+    (ap (λ (fault : Bool). if fault then [] else c.args.told.changes) (sym landing.fault)) (g.met.S.Store.none_stored c.args.store.now c.args.tables.now.archive_end c.requires.used)
 
 pub returns-in-Err-settle-clause-ran : goal.returns-in-Err-settle-clause-ran
 returns-in-Err-settle-clause-ran g c = λ from before since start places outcome h same proper is t given.
@@ -156,23 +143,8 @@ returns-in-Err-settle-clause-grows g c = λ d all outcome stand proper is t has.
 pub returns-in-Err-settle-clause-no_call : goal.returns-in-Err-settle-clause-no_call
 returns-in-Err-settle-clause-no_call g c = λ none. absurd (c.is_unwritten.ensures.some c.if-is_unwritten.false none)
 
-pub returns-in-Err-settle-clause-only : goal.returns-in-Err-settle-clause-only
-returns-in-Err-settle-clause-only g c = λ whole. absurd (true≢false (sym c.land_nothing-in-Err-settle.ensures.fault ∙ whole))
-
-pub returns-in-Err-settle-clause-read : goal.returns-in-Err-settle-clause-read
-returns-in-Err-settle-clause-read g c = λ whole. c.is_unwritten.ensures.read c.if-is_unwritten.false
-
-pub returns-in-Err-settle-clause-cause : goal.returns-in-Err-settle-clause-cause
-returns-in-Err-settle-clause-cause g c = λ failed kept. c.in-Err-settle.ensures.cause.risen
-
-pub returns-in-Err-settle-clause-cause_contents : goal.returns-in-Err-settle-clause-cause_contents
-returns-in-Err-settle-clause-cause_contents g c = λ lost whole. absurd (true≢false (sym lost ∙ c.land_nothing-in-Err-settle.ensures.lost))
-
-pub returns-in-Err-settle-clause-lost : goal.returns-in-Err-settle-clause-lost
-returns-in-Err-settle-clause-lost g c = λ lost. c.land_nothing-in-Err-settle.ensures.fault
-
-pub returns-in-Err-settle-clause-none : goal.returns-in-Err-settle-clause-none
-returns-in-Err-settle-clause-none g c = λ none. c.land_nothing-in-Err-settle.ensures.nothing.1
+pub returns-in-Err-settle-clause-counted : goal.returns-in-Err-settle-clause-counted
+returns-in-Err-settle-clause-counted g c = let landing = c.land_nothing-in-Err-settle.ensures in counted_fault c.args.told c.land_nothing-in-Err-settle.result _ _ _ _ landing.fault (λ kept. c.in-Err-settle.ensures.cause.risen) (λ lost. absurd (true≢false (sym lost ∙ landing.lost)))
 
 -- ---- a content couldn't be stored
 
@@ -182,14 +154,11 @@ returns-in-Err-store-clause-can g c = let can = c.requires.can in (can.0, (nothi
 pub returns-in-Err-store-clause-used : goal.returns-in-Err-store-clause-used
 returns-in-Err-store-clause-used g c = subst (g.S.Store.ends_at c.store.new.self) c.archive_end.ensures.end c.in-Err-store.ensures.unused
 
-pub returns-in-Err-store-clause-stores : goal.returns-in-Err-store-clause-stores
-returns-in-Err-store-clause-stores g c = subst (λ (stored : List (List ℕ)). g.S.Store.stores stored c.args.store.now c.store.new.self) (sym c.land_nothing-in-Err-store.ensures.nothing.1) c.in-Err-store.ensures.unstored
-
-pub returns-in-Err-store-clause-end : goal.returns-in-Err-store-clause-end
-returns-in-Err-store-clause-end g c = ap (λ (stored : List (List ℕ)). stores_end stored c.args.tables.now.archive_end) (sym c.land_nothing-in-Err-store.ensures.nothing.1)
-
-pub returns-in-Err-store-clause-changes : goal.returns-in-Err-store-clause-changes
-returns-in-Err-store-clause-changes g c = c.land_nothing-in-Err-store.ensures.nothing.0 ∙ ap (λ (fault : Bool). if fault then [] else c.args.told.changes) (sym c.land_nothing-in-Err-store.ensures.fault)
+pub returns-in-Err-store-clause-landed : goal.returns-in-Err-store-clause-landed
+returns-in-Err-store-clause-landed g c =
+    let landing = c.land_nothing-in-Err-store.ensures in
+    landed_nothing c.args.told c.land_nothing-in-Err-store.result g.S.Store.stores c.args.tables.now.archive_end c.args.store.now c.store.new.self landing.nothing
+    (ap (λ (fault : Bool). if fault then [] else c.args.told.changes) (sym landing.fault)) c.in-Err-store.ensures.unstored
 
 pub returns-in-Err-store-clause-ran : goal.returns-in-Err-store-clause-ran
 returns-in-Err-store-clause-ran g c = λ from before since start places outcome h same proper is t given.
@@ -216,26 +185,8 @@ returns-in-Err-store-clause-grows g c = λ d all outcome stand proper is t has.
 pub returns-in-Err-store-clause-no_call : goal.returns-in-Err-store-clause-no_call
 returns-in-Err-store-clause-no_call g c = λ none. absurd (c.is_unwritten.ensures.some c.if-is_unwritten.false none)
 
-pub returns-in-Err-store-clause-only : goal.returns-in-Err-store-clause-only
-returns-in-Err-store-clause-only g c = λ whole. absurd (true≢false (sym c.land_nothing-in-Err-store.ensures.fault ∙ whole))
-
-pub returns-in-Err-store-clause-only_contents : goal.returns-in-Err-store-clause-only_contents
-returns-in-Err-store-clause-only_contents g c = λ whole. absurd (true≢false (sym c.land_nothing-in-Err-store.ensures.fault ∙ whole))
-
-pub returns-in-Err-store-clause-read : goal.returns-in-Err-store-clause-read
-returns-in-Err-store-clause-read g c = λ whole. c.is_unwritten.ensures.read c.if-is_unwritten.false
-
-pub returns-in-Err-store-clause-cause : goal.returns-in-Err-store-clause-cause
-returns-in-Err-store-clause-cause g c = λ failed kept. absurd (true≢false (sym c.land_nothing-in-Err-store.ensures.lost ∙ kept))
-
-pub returns-in-Err-store-clause-cause_contents : goal.returns-in-Err-store-clause-cause_contents
-returns-in-Err-store-clause-cause_contents g c = λ lost whole. c.in-Err-store.ensures.cause.risen
-
-pub returns-in-Err-store-clause-lost : goal.returns-in-Err-store-clause-lost
-returns-in-Err-store-clause-lost g c = λ lost. c.land_nothing-in-Err-store.ensures.fault
-
-pub returns-in-Err-store-clause-none : goal.returns-in-Err-store-clause-none
-returns-in-Err-store-clause-none g c = λ none. c.land_nothing-in-Err-store.ensures.nothing.1
+pub returns-in-Err-store-clause-counted : goal.returns-in-Err-store-clause-counted
+returns-in-Err-store-clause-counted g c = let landing = c.land_nothing-in-Err-store.ensures in counted_fault c.args.told c.land_nothing-in-Err-store.result _ _ _ _ landing.fault (λ kept. absurd (true≢false (sym landing.lost ∙ kept))) (λ lost. c.in-Err-store.ensures.cause.risen)
 
 -- ---- it was written, or that failed
 
@@ -247,19 +198,19 @@ returns-clause-can g c =
 pub returns-clause-used : goal.returns-clause-used
 returns-clause-used g c = subst (g.S.Store.ends_at c.store.new.self) (sym c.set_archive_end.ensures.end) c.in-Ok-store.ensures.used
 
-pub returns-clause-end : goal.returns-clause-end
-returns-clause-end g c =
-    c.set_archive_end.ensures.end
-    ∙ (c.in-Ok-store.ensures.end
-    ∙ (ap (stores_end c.as_slice-2.result.now) c.archive_end.ensures.end
-    ∙ ap (λ (stored : List (List ℕ)). stores_end stored c.args.tables.now.archive_end) (c.as_slice-2.ensures ∙ sym c.land_stored.ensures.stored)))
-
-pub returns-clause-stores : goal.returns-clause-stores
-returns-clause-stores g c =
-    subst (λ (stored : List (List ℕ)). g.S.Store.stores stored c.args.store.now c.store.new.self) (c.as_slice-2.ensures ∙ sym c.land_stored.ensures.stored) c.in-Ok-store.ensures.stored
-
-pub returns-clause-changes : goal.returns-clause-changes
-returns-clause-changes g c = c.land_stored.ensures.changes ∙ ap (λ (fault : Bool). if fault then [] else c.args.told.changes) (sym c.land_stored.ensures.fault)
+pub returns-clause-landed : goal.returns-clause-landed
+returns-clause-landed g c =
+    let told = c.args.told in
+    let stored = c.as_slice-2.ensures ∙ sym c.land_stored.ensures.stored in
+    record {
+      stored = subst (λ (l : List (List ℕ)). g.S.Store.stores l c.args.store.now c.store.new.self) stored c.in-Ok-store.ensures.stored;
+      end = c.set_archive_end.ensures.end
+          ∙ (c.in-Ok-store.ensures.end
+          ∙ (ap (stores_end c.as_slice-2.result.now) c.archive_end.ensures.end
+          ∙ ap (λ (l : List (List ℕ)). stores_end l c.args.tables.now.archive_end) stored));
+      none = λ none. c.land_stored.ensures.stored ∙ none;
+      changes = c.land_stored.ensures.changes ∙ ap (λ (fault : Bool). if fault then [] else told.changes) (sym c.land_stored.ensures.fault);
+    }
 
 pub returns-clause-ran : goal.returns-clause-ran
 returns-clause-ran g c = λ from before since start places outcome h same proper is t given.
@@ -350,26 +301,15 @@ returns-clause-grows g c = λ d all outcome stand proper is t has.
 pub returns-clause-no_call : goal.returns-clause-no_call
 returns-clause-no_call g c = λ none. absurd (c.is_unwritten.ensures.some c.if-is_unwritten.false none)
 
-pub returns-clause-only : goal.returns-clause-only
-returns-clause-only g c = λ whole. c.commit-failed.ensures.only (sym c.land_stored.ensures.fault ∙ whole) ∙ c.in-Ok-settle.ensures.only
-
-pub returns-clause-only_contents : goal.returns-clause-only_contents
-returns-clause-only_contents g c = λ whole. c.in-Ok-store.ensures.only
-
-pub returns-clause-read : goal.returns-clause-read
-returns-clause-read g c = λ whole. c.is_unwritten.ensures.read c.if-is_unwritten.false
-
-pub returns-clause-cause : goal.returns-clause-cause
-returns-clause-cause g c = λ failed kept.
+pub returns-clause-counted : goal.returns-clause-counted
+returns-clause-counted g c =
+    let fault = c.land_stored.ensures.fault in
     let le = c.settle.ensures.cause.never_falls in
-    let risen = c.commit-failed.ensures.cause (sym c.land_stored.ensures.fault ∙ failed) in
-    omega (arith, le, risen)
-
-pub returns-clause-cause_contents : goal.returns-clause-cause_contents
-returns-clause-cause_contents g c = λ lost whole. absurd (true≢false (sym lost ∙ c.land_stored.ensures.lost))
-
-pub returns-clause-lost : goal.returns-clause-lost
-returns-clause-lost g c = λ lost. absurd (true≢false (sym lost ∙ c.land_stored.ensures.lost))
-
-pub returns-clause-none : goal.returns-clause-none
-returns-clause-none g c = λ none. c.land_stored.ensures.stored ∙ none
+    record {
+      only = λ whole. c.commit-failed.ensures.only (sym fault ∙ whole) ∙ c.in-Ok-settle.ensures.only;
+      only_contents = λ whole. c.in-Ok-store.ensures.only;
+      read = λ whole. c.is_unwritten.ensures.read c.if-is_unwritten.false;
+      cause = λ failed kept. let risen = c.commit-failed.ensures.cause (sym fault ∙ failed) in omega (arith, le, risen);
+      cause_contents = λ lost whole. absurd (true≢false (sym lost ∙ c.land_stored.ensures.lost));
+      lost = λ lost. absurd (true≢false (sym lost ∙ c.land_stored.ensures.lost));
+    }

@@ -112,7 +112,7 @@ returns-in-Ok-place-clause-ran g c = λ since start places h proper is given.
     let used = archives.used_of archive in
     let can = read_can D.says old archive c.tell_reading.ensures.used c.tell_reading.ensures.same c.tell_reading.ensures.crash c.requires.can in
     let run = read_run D.says old archive c.tell_reading.ensures.used c.tell_reading.ensures.same c.tell_reading.ensures.crash since start places h in
-    let behind = c.in-Ok-place.ensures.stores in
+    let behind = c.in-Ok-place.ensures.landed.stored in
     let done = c.in-Ok-place.ensures.ran used [] since start places c.args.outcome (beside_now D.says mid since start places run) can.end proper is c.in-Ok.ensures.told given in
     subst (λ (answer : Answer). HasRun D.says new since start (with_place places request answer)) (sym c.into_answer.ensures)
     (depot_of_parts D.says images used landed.stored new since start (with_place places request landed.answer) done behind.used
@@ -148,11 +148,11 @@ returns-in-Ok-place-clause-stored g c =
     let read = c.tell_reading.new.archive in
     let new = c.place.new.store in
     stored_two D.says old read new (stored_read D.says old read c.tell_reading.ensures.used c.tell_reading.ensures.crash)
-    (stored_so D.says read new c.in-Ok-place.landed.stored c.in-Ok-place.ensures.stores)
+    (stored_so D.says read new c.in-Ok-place.landed.stored c.in-Ok-place.ensures.landed.stored)
 
 pub returns-in-Ok-place-clause-end : goal.returns-in-Ok-place-clause-end
 returns-in-Ok-place-clause-end g c = λ none.
-    c.in-Ok-place.ensures.end ∙ ap (λ (stored : List (List ℕ)). stores_end stored c.args.self.now.tables.archive_end) (c.in-Ok-place.ensures.none (c.in-Ok.ensures.told.stores ∙ none))
+    c.in-Ok-place.ensures.landed.end ∙ ap (λ (stored : List (List ℕ)). stores_end stored c.args.self.now.tables.archive_end) (c.in-Ok-place.ensures.landed.none (c.in-Ok.ensures.told.stores ∙ none))
 
 pub returns-in-Ok-place-clause-no_write : goal.returns-in-Ok-place-clause-no_write
 returns-in-Ok-place-clause-no_write g c = λ none. let same = c.place.ensures.no_call (c.in-Ok.ensures.told.changes ∙ none) in (same.1, same.0)
@@ -167,8 +167,8 @@ pub returns-in-Ok-place-clause-only : goal.returns-in-Ok-place-clause-only
 returns-in-Ok-place-clause-only g c = λ whole.
     let kept : c.in-Ok-place.landed.answer.place.fault ≡ false = sym (ap (λ (a : Answer). a.place.fault) c.into_answer.ensures) ∙ whole in
     record {
-      journal = c.in-Ok-place.ensures.only kept;
-      archive = c.in-Ok-place.ensures.only_contents kept ∙ c.in-Ok.ensures.only (c.in-Ok-place.ensures.read kept);
+      journal = c.in-Ok-place.ensures.counted.only kept;
+      archive = c.in-Ok-place.ensures.counted.only_contents kept ∙ c.in-Ok.ensures.only (c.in-Ok-place.ensures.counted.read kept);
     }
 
 pub returns-in-Ok-place-clause-cause : goal.returns-in-Ok-place-clause-cause
@@ -181,6 +181,6 @@ returns-in-Ok-place-clause-cause g c = λ fault.
     let then = c.place.ensures.never_falls_contents in
     let landed = c.in-Ok-place.landed in
     let failed : landed.answer.place.fault ≡ true = sym (ap (λ (a : Answer). a.place.fault) c.into_answer.ensures) ∙ fault in
-    cause_of _ (HasRisen before now) landed.lost c.in-Ok.told.unread (λ kept. c.in-Ok-place.ensures.cause failed kept)
-    (λ lost whole. let risen = c.in-Ok-place.ensures.cause_contents lost whole in omega (arith, first, risen))
+    cause_of _ (HasRisen before now) landed.lost c.in-Ok.told.unread (λ kept. c.in-Ok-place.ensures.counted.cause failed kept)
+    (λ lost whole. let risen = c.in-Ok-place.ensures.counted.cause_contents lost whole in omega (arith, first, risen))
     (λ unread. let risen = c.in-Ok.ensures.cause unread in omega (arith, then, risen))
