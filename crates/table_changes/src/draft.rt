@@ -30,7 +30,7 @@ impl TablesDraft {
     {
         let mut drafts = Vec::new(alloc);
         for table in TableId::ALL {
-            drafts.push(tables.version(table).draft(alloc)?)?;
+            drafts.push(tables.version(table).draft()?)?;
         }
         Ok(TablesDraft {
             drafts,

@@ -41,14 +41,14 @@ AllOfTable-tried table rows new change (Ok a) ok err all e = subst (AllOfTable t
 AllOfTable-tried table rows new change (Err a) ok err all e = subst (AllOfTable table) (sym err) all
 
 -- the table after a change that was made
-pub changed_made : (version : TableRows) (table : TableId) (rows new : List Record) (op as_op : Op) (row as_row : Record) → record { table = table; rows = rows } ≡ version → op ≡ as_op → row ≡ as_row → new ≡ changed_once rows (record { op = op; row = row }) → record { table = table; rows = new } ≡ with_rows version (changed_once version.rows (record { op = as_op; row = as_row }))
-changed_made version table rows new op as_op row as_row is same_op same_row made =
-    ap (λ (l : List Record). record { table = table; rows = l }) (made ∙ (λ i. changed_once rows (record { op = same_op i; row = same_row i })))
-    ∙ ap (λ (v : TableRows). with_rows v (changed_once v.rows (record { op = as_op; row = as_row }))) is
+pub changed_made : (version : TableRows) (table : TableId) (rows new : List Record) (op as_op : Op) (row : Record) → record { table = table; rows = rows } ≡ version → op ≡ as_op → new ≡ changed_once rows (record { op = op; row = row }) → record { table = table; rows = new } ≡ with_rows version (changed_once version.rows (record { op = as_op; row = row }))
+changed_made version table rows new op as_op row is same made =
+    ap (λ (l : List Record). record { table = table; rows = l }) (made ∙ ap (λ (o : Op). changed_once rows (record { op = o; row = row })) same)
+    ∙ ap (λ (v : TableRows). with_rows v (changed_once v.rows (record { op = as_op; row = row }))) is
 
-pub changed_tried : {A E : Type 0} (version : TableRows) (table : TableId) (rows new : List Record) (op : Op) (row as_row : Record) (r : Result A E) → record { table = table; rows = rows } ≡ version → row ≡ as_row → OnOk r (new ≡ changed_once rows (record { op = op; row = row })) → OnOk r (record { table = table; rows = new } ≡ with_rows version (changed_once version.rows (record { op = op; row = as_row })))
-changed_tried version table rows new op row as_row (Ok a) is same ok = changed_made version table rows new op op row as_row is refl same ok
-changed_tried version table rows new op row as_row (Err e) is same ok = tt
+pub changed_tried : {A E : Type 0} (version : TableRows) (table : TableId) (rows new : List Record) (op : Op) (row : Record) (r : Result A E) → record { table = table; rows = rows } ≡ version → OnOk r (new ≡ changed_once rows (record { op = op; row = row })) → OnOk r (record { table = table; rows = new } ≡ with_rows version (changed_once version.rows (record { op = op; row = row })))
+changed_tried version table rows new op row (Ok a) is ok = changed_made version table rows new op op row is refl ok
+changed_tried version table rows new op row (Err e) is ok = tt
 
 -- one more change
 module _ (changes : List Change) (i : ℕ) (change : Change) (h : i < length changes) (is : change ≡ get_or changes i change) where

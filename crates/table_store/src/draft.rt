@@ -1,73 +1,50 @@
 //! Drafts of a version.
 
-ghost use Rattle.std.specs.Prelude.{◌≡◌, ◌≢◌, List, IfOk, IsTrue, OnOk, OnErr, ◌↔◌};
+ghost use Rattle.std.specs.Prelude.{◌≡◌, IfOk, IsTrue, OnOk, OnErr, ◌↔◌};
 ghost use Rattle.std.specs.Option.{option_copied};
-ghost use Rattle.db_records.specs.declared.record.Record.{Record};
-ghost use Rattle.db_records.specs.declared.table.TableId.{TableId};
-ghost use Rattle.db_records.specs.declared.change.Op.TheVariants.{Remove};
-ghost use Rattle.table_store.specs.Rows.{AllOfTable, Fits, row_at, changed_once, with_rows};
-ghost use Rattle.table_store.specs.Marks.{AllHavePlaces};
-ghost use Rattle.table_store.specs.Protections.{protects_in};
+ghost use Rattle.table_store.specs.Rows.{Fits, row_at, changed_once, with_rows};
 
-use crate::protections::read_protects;
-use crate::row_order::{ByKey, ByMark};
-use crate::search_key::{MarkRef, SearchKey};
 use crate::shared_row::SharedRow;
-use crate::tree::{Tree, fits};
+use crate::table_trees::TableTrees;
 use crate::version::Version;
-use db_records::{Change, Key, Op, Record, TableId};
-use protect_table::Protects;
+use db_records::{Change, Key, Record, TableId};
 use std::alloc::{AllocError, Global};
 use std::marker::Model;
 
 /// The rows of one table, changed one after another until they are a version.
 ///
-/// It is for who tests and makes many changes, each against the rows that those before it left. A
-/// change is made in place where its page isn't shared with a version and keeps its first row. Else it
-/// copies the handles of the rows of that page, and where the branch is shared, those of its pages. Rows
-/// that come in the order of their keys are put behind the others without a search.
+/// It is for who tests and makes many changes, each against the rows that those before it left. Until its
+/// first change it shares the rows of the version that it began with, and without one it ends as that version.
 #[derive(Drop)]
 pub struct Draft {
-    table: TableId,
-    tree: Tree<ByKey>,
-    /// The rows that have marks, as in [`Version`].
-    marked: Tree<ByMark>,
-    /// The protections that the rows tell, until the first change.
-    protects: Option<Protects>,
+    rows: DraftRows,
+}
+
+/// Where the rows of a draft are.
+#[derive(Drop)]
+enum DraftRows {
+    /// In the version that the draft began with: no change was made.
+    Unchanged(Version),
+    Changed(TableTrees),
 }
 
 impl Model for Draft {
-    ghost use Rattle.std.specs.Prelude.{◌≡◌, IfSome};
-    ghost use Rattle.table_store.specs.Rows.{TableRows, AllOfTable};
-    ghost use Rattle.table_store.specs.Marks.{AllHavePlaces};
-    ghost use Rattle.table_store.specs.Protections.{protects_in};
+    ghost use Rattle.table_store.specs.Rows.{TableRows};
 
     ghost Value = { TableRows };
 
-    ghost view = { λ a. record { table = a.table; rows = a.tree } };
+    ghost use Rattle.table_store.specs.Drafts.{rows_drafted};
 
-    ghost invariant = { λ a. AllOfTable a.table a.tree × AllHavePlaces a.marked a.tree × IfSome a.protects (λ protects. protects ≡ protects_in a.tree) };
+    ghost view = { λ a. rows_drafted a.rows };
 }
 
 impl Draft {
-    /// The draft that has the rows of the first tree, and finds them by the second one, beside the protections that
-    /// they tell.
-    pub(crate) fn of_trees(
-        table: TableId,
-        tree: Tree<ByKey>,
-        marked: Tree<ByMark>,
-        protects: Protects,
-    ) -> Draft
-        requires of_table { AllOfTable table tree }
-        requires places { AllHavePlaces marked tree }
-        requires protects { protects ≡ protects_in tree }
-        ensures { result ≡ record { table = table; rows = tree } }
+    /// The draft that begins with a version.
+    pub(crate) fn of_version(version: Version) -> Draft
+        ensures { result ≡ version }
     {
         Draft {
-            table,
-            tree,
-            marked,
-            protects: Some(protects),
+            rows: DraftRows::Unchanged(version),
         }
     }
 
@@ -75,21 +52,30 @@ impl Draft {
     pub fn table(&self) -> TableId
         ensures { result ≡ self.now.table }
     {
-        self.table
+        match &self.rows {
+            DraftRows::Unchanged(version) => version.table(),
+            DraftRows::Changed(trees) => trees.table(),
+        }
     }
 
     /// The row that has the key.
     pub fn get(&self, key: &Key) -> Option<&Record>
         ensures { option_copied result ≡ row_at key.now self.now.rows }
     {
-        self.tree.get(SearchKey::Given(key))
+        match &self.rows {
+            DraftRows::Unchanged(version) => version.get(key),
+            DraftRows::Changed(trees) => trees.get(key),
+        }
     }
 
     /// Whether a change fits these rows, as [`Version::fits`] says it of a version.
     pub fn fits(&self, change: &Change) -> bool
         ensures { IsTrue result ↔ Fits self.now change.now }
     {
-        change.row.table() == self.table && fits(&self.tree, change)
+        match &self.rows {
+            DraftRows::Unchanged(version) => version.fits(change),
+            DraftRows::Changed(trees) => trees.fits(change),
+        }
     }
 
     /// Makes a copy of a change that fits. The one error is want of memory, and then the rows stay as they
@@ -110,25 +96,15 @@ impl Draft {
         ensures err { OnErr result (self.new ≡ self.old) }
     {
         let op = change.op;
-        self.protects = None;
         let row = SharedRow::new(alloc, change.into_row())?;
-        if op != Op::Remove {
-            change_place(&mut self.marked, alloc, op, &row)?;
-            return self.tree.change(alloc, op, &row);
-        }
-        self.tree.change(alloc, Op::Remove, &row)?;
-        // Without memory for it the place stays: it costs a look-up, and finds nothing.
-        if let Err(_) = change_place(&mut self.marked, alloc, Op::Remove, &row) {}
-        Ok(())
-    }
-
-    /// The protections that these rows tell, read anew where they changed.
-    fn protects(&self, alloc: Global) -> Result<Protects, AllocError>
-        ensures { IfOk result (λ protects. protects ≡ protects_in self.now.rows) }
-    {
-        match &self.protects {
-            Some(protects) => protects.share(),
-            None => read_protects(alloc, self.table, self.tree.walk()),
+        match &mut self.rows {
+            DraftRows::Unchanged(version) => {
+                let mut trees = version.trees(alloc)?;
+                trees.change(alloc, op, &row)?;
+                self.rows = DraftRows::Changed(trees);
+                Ok(())
+            }
+            DraftRows::Changed(trees) => trees.change(alloc, op, &row),
         }
     }
 
@@ -136,24 +112,9 @@ impl Draft {
     pub fn finish(self, alloc: Global) -> Result<Version, AllocError>
         ensures { IfOk result (λ version. version ≡ self) }
     {
-        let protects = self.protects(alloc)?;
-        Version::of_trees(alloc, self.table, self.tree, self.marked, protects)
-    }
-}
-
-/// Makes a change among the rows that have marks. A row without one is none of them.
-fn change_place(
-    marked: &mut Tree<ByMark>,
-    alloc: Global,
-    op: Op,
-    row: &SharedRow,
-) -> Result<(), AllocError>
-    ensures places { OnOk result ((rows : List Record) → AllHavePlaces marked.old rows → AllHavePlaces marked.new (changed_once rows (record { op = op; row = row.now }))) }
-    ensures more { OnOk result (op ≢ Remove → (rows : List Record) → AllHavePlaces marked.old rows → AllHavePlaces marked.new rows) }
-    ensures err { OnErr result (marked.new ≡ marked.old) }
-{
-    match MarkRef::of_row(row.row()) {
-        Some(_) => marked.change(alloc, op, row),
-        None => Ok(()),
+        match self.rows {
+            DraftRows::Unchanged(version) => Ok(version),
+            DraftRows::Changed(trees) => trees.finish(alloc),
+        }
     }
 }

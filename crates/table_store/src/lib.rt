@@ -15,6 +15,7 @@ mod protections;
 mod row_order;
 mod search_key;
 mod shared_row;
+mod table_trees;
 mod tables;
 mod tree;
 mod version;

@@ -11,6 +11,7 @@ use crate::draft::Draft;
 use crate::mark_walk::MarkWalk;
 use crate::row_order::{ByKey, ByMark};
 use crate::search_key::{MarkRef, SearchKey};
+use crate::table_trees::TableTrees;
 use crate::tree::{Tree, fits};
 use crate::walk::Walk;
 use db_records::paths::Text;
@@ -207,20 +208,26 @@ impl Version {
         requires { AllFit self.now changes.now }
         ensures { IfOk result (λ version. version ≡ with_rows self.now (changed self.now.rows changes.now)) }
     {
-        let mut draft = self.draft(alloc)?;
+        let mut draft = self.draft()?;
         for change in changes {
             draft.change(alloc, change)?;
         }
         draft.finish(alloc)
     }
 
-    /// A draft that begins with the rows of this version. The one error is want of memory.
-    pub fn draft(&self, alloc: Global) -> Result<Draft, AllocError>
+    /// A draft that begins with the rows of this version. The one error is that there are too many shares.
+    pub fn draft(&self) -> Result<Draft, AllocError>
         ensures { IfOk result (λ draft. draft ≡ self.now) }
+    {
+        Ok(Draft::of_version(self.share()?))
+    }
+
+    /// Trees of their own for the rows of this version. The one error is want of memory.
+    pub(crate) fn trees(&self, alloc: Global) -> Result<TableTrees, AllocError>
+        ensures { IfOk result (λ trees. trees ≡ self.now) }
     {
         let tree = self.tree.share(alloc)?;
         let marked = self.marked.share(alloc)?;
-        let protects = self.protects.share()?;
-        Ok(Draft::of_trees(self.table, tree, marked, protects))
+        Ok(TableTrees::new(self.table, tree, marked))
     }
 }

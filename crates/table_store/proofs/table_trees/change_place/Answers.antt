@@ -2,7 +2,7 @@ use Rattle.std.proofs.Common.{sym, ap, ◌∙◌}
 use Rattle.table_store.specs.Marks.{mark_of}
 use Rattle.table_store.specs.SearchKey.{mark_found}
 use Rattle.table_store.proofs.Marks.{places_tried, more_tried, places_unmarked}
-use Rattle.table_store.proofs.draft.change_place.Goals as goal
+use Rattle.table_store.proofs.table_trees.change_place.Goals as goal
 
 pub returns-in-Some-clause-places : goal.returns-in-Some-clause-places
 returns-in-Some-clause-places c = places_tried c.args.row.now c.args.marked.now c.args.op c.change.new.self c.change.result c.change.ensures.ok
