@@ -1,14 +1,14 @@
 -- The fixes of a change, and what a saved fix of a sound depot says.
 use Rattle.std.proofs.Common.{◌≡◌, ◌≤◌, ℕ, Bool, true, false, List, [], ◌∷◌, ◌++◌, Option, Some, None, refl, sym, ap, subst, ◌∙◌, arith}
-use Rattle.std.specs.Prelude.{nat_le, IsSome, is_some, option_map, codes, decimal}
+use Rattle.std.specs.Prelude.{◌==◌, nat_le, IsSome, is_some, option_map, flat_map, codes, decimal}
 use Rattle.std.specs.List.{filter_map}
 use Rattle.depot_rows.specs.depot_path.Digits.{number_of}
 use Rattle.depot_rows.specs.db_records.declared.record.Record.TheVariants as records
 use Rattle.depot_rows.specs.spec_form.Form.{FormValue}
 use Rattle.depot_rows.specs.spec_form.Printing.{printed_form}
 use Rattle.depot_rows.specs.spec_form.declared.shape.Shape.TheVariants.{Fix as FixShape}
-use Rattle.depot_rows.specs.depot_model.Deeds.{Deed, JobForm, FixForm}
-use Rattle.depot_rows.specs.depot_model.Fixes.{job, is_on, fixes_on, fixes_of, fix_name, fixed_job, has_fix}
+use Rattle.depot_rows.specs.depot_model.Deeds.{Deed, Spec, JobForm, FixForm}
+use Rattle.depot_rows.specs.depot_model.Fixes.{job, is_on, fixes_on, fixes_of, fix_name, fixed_job, has_fix, closed, closes, closing, renumbers_where}
 use Rattle.depot_rows.specs.depot_model.Latest.{keys_of, spec, spec_said, spec_name}
 use Rattle.depot_rows.specs.depot_model.Numbers.{top}
 use Rattle.depot_rows.specs.depot_model.Numerals.{is_numeral}
@@ -94,3 +94,32 @@ module _ (d : List Deed) (sound : IsSound d) where
       let f = fix_of n form h in
       ap (λ (x : List ℕ). elim (spec d FixForm x) as (λ _. Bool) [ None ↦ false | Some g ↦ is_on g ]) (sym (name_of n form f))
       ∙ ap (λ (o : Option FormValue). elim o as (λ _. Bool) [ None ↦ false | Some g ↦ is_on g ]) f.saved ∙ f.on
+
+-- ---- the deeds by which the fixes of a change follow it save forms of fixes and jobs alone
+
+abbrev pub AllForms : List Deed → Type 0
+AllForms [] = Unit {0}
+AllForms (Spec JobForm name form ∷ deeds) = AllForms deeds
+AllForms (Spec FixForm name form ∷ deeds) = AllForms deeds
+AllForms (_ ∷ deeds) = ⊥
+
+both_forms : (xs ys : List Deed) → AllForms xs → AllForms ys → AllForms (xs ++ ys)
+both_forms [] ys a b = b
+both_forms (Spec JobForm name form ∷ xs) ys a b = both_forms xs ys a b
+both_forms (Spec FixForm name form ∷ xs) ys a b = both_forms xs ys a b
+both_forms (_ ∷ xs) ys a b = absurd a
+
+one_forms : (d : List Deed) (n m : ℕ) (f : FormValue) → AllForms (closing d n m f)
+one_forms d n m f = both_forms (renumbers_where (n == m) n m f) (closes d (fixed_job f)) (two (n == m)) (one (job d (fixed_job f)))
+  where
+    two : (b : Bool) → AllForms (renumbers_where b n m f)
+    two true = tt
+    two false = tt
+
+    one : (o : Option FormValue) → AllForms (elim o as (λ _. List Deed) [ None ↦ [] | Some h ↦ Spec JobForm (fixed_job f) (closed h) ∷ [] ])
+    one None = tt
+    one (Some h) = tt
+
+pub all_forms : (d : List Deed) (n m : ℕ) (fs : List FormValue) → AllForms (flat_map (closing d n m) fs)
+all_forms d n m [] = tt
+all_forms d n m (f ∷ fs) = both_forms (closing d n m f) (flat_map (closing d n m) fs) (one_forms d n m f) (all_forms d n m fs)

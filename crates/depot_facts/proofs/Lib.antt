@@ -18,3 +18,5 @@ pub mod KeptForms
 pub mod Found
 pub mod Fixes
 pub mod Credits
+pub mod Submitting
+pub mod Following

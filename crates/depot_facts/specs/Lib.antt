@@ -1,3 +1,4 @@
 pub mod Fields
 pub mod Following
+pub mod Submits
 pub mod Contents

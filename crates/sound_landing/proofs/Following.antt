@@ -32,7 +32,6 @@ use Rattle.depot_facts.proofs.Decimals.{numeral_is, numeral_digits, number_decim
 use Rattle.depot_facts.proofs.Fixes.{FixTells, fix_in, fix_tells, IsFixOf, fix_of, fixed}
 use Rattle.depot_facts.proofs.Found.{spelled}
 use Rattle.sound_landing.proofs.Ordered.{after_both}
-use Rattle.sound_landing.proofs.Whole.{AllForms}
 use Rattle.sound_deeds.proofs.Ties.{fixes_fit}
 
 -- a text of a list that isn't empty isn't empty
@@ -428,26 +427,3 @@ module _ (d : List Deed) (sound : IsSound d) (n m : ℕ) (small : m ≤ 21474836
           go : (o : Option FormValue) → spec last FixForm name ≡ o → IfSome o (λ form. IsTrue (is_on form) → number_of_field form (codes "Change") ≢ n)
           go None f = tt
           go (Some g) f = λ on number. found g f on number
-
--- ---- they save forms of fixes and jobs alone
-
-both_forms : (xs ys : List Deed) → AllForms xs → AllForms ys → AllForms (xs ++ ys)
-both_forms [] ys a b = b
-both_forms (Spec JobForm name form ∷ xs) ys a b = both_forms xs ys a b
-both_forms (Spec FixForm name form ∷ xs) ys a b = both_forms xs ys a b
-both_forms (_ ∷ xs) ys a b = absurd a
-
-one_forms : (d : List Deed) (n m : ℕ) (f : FormValue) → AllForms (closing d n m f)
-one_forms d n m f = both_forms (renumbers_where (n == m) n m f) (closes d (fixed_job f)) (two (n == m)) (one (job d (fixed_job f)))
-  where
-    two : (b : Bool) → AllForms (renumbers_where b n m f)
-    two true = tt
-    two false = tt
-
-    one : (o : Option FormValue) → AllForms (elim o as (λ _. List Deed) [ None ↦ [] | Some h ↦ Spec JobForm (fixed_job f) (closed h) ∷ [] ])
-    one None = tt
-    one (Some h) = tt
-
-pub all_forms : (d : List Deed) (n m : ℕ) (fs : List FormValue) → AllForms (flat_map (closing d n m) fs)
-all_forms d n m [] = tt
-all_forms d n m (f ∷ fs) = both_forms (closing d n m f) (flat_map (closing d n m) fs) (one_forms d n m f) (all_forms d n m fs)

@@ -9,8 +9,6 @@ pub mod Shutting
 pub mod Shelved
 pub mod Leaving
 pub mod Submitted
-pub mod Refusing
 pub mod Whole
 pub mod Following
 pub mod Kept
-pub mod Follows

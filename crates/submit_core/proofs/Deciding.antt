@@ -12,8 +12,8 @@ use Rattle.depot_rows.specs.depot_model.Steps.Submitting.{landed, landing_number
 use Rattle.reply_rows.specs.Made.{told}
 use Rattle.reply_rows.specs.Refusing.{first_of}
 use Rattle.reply_rows.specs.declared.step.Step.{Step}
-use Rattle.sound_landing.specs.Submits.{IsAsked, MaySubmit}
-use Rattle.sound_landing.proofs.Refusing.{Lands_or_not, submit_cases}
+use Rattle.depot_facts.specs.Submits.{IsAsked, MaySubmit}
+use Rattle.depot_facts.proofs.Submitting.{Lands_or_not, submit_cases}
 use Rattle.step_stores.specs.Stored.{IsStoring}
 use Rattle.submit_core.specs.Submitting.{submit_refusals}
 use Rattle.submit_core.proofs.Refusing.{first_refuses, none_refuses}

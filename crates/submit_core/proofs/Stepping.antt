@@ -28,8 +28,8 @@ use Rattle.reply_rows.specs.declared.step.Step.{Step}
 use Rattle.reply_rows.proofs.Bare.{AreBare, none_told, rows_wait}
 use Rattle.reply_rows.proofs.Joined.{made_refusal}
 use Rattle.depot_facts.specs.Following.{AreTold}
-use Rattle.sound_landing.specs.Submits.{MaySubmit}
-use Rattle.sound_landing.proofs.Follows.{submit_follows}
+use Rattle.depot_facts.specs.Submits.{MaySubmit}
+use Rattle.depot_facts.proofs.Following.{submit_follows}
 use Rattle.step_stores.specs.Stored.{ArePlaced, AreStored, IsStoring, NothingLands}
 use Rattle.step_stores.proofs.Storing.{made_stores, none_land}
 

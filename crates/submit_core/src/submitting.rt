@@ -18,7 +18,7 @@ ghost use Rattle.depot_rows.specs.Deed.{opening_of as opening_said};
 ghost use Rattle.depot_rows.specs.Standing.{HasRows};
 ghost use Rattle.named_files.specs.Asked.{IsAsker};
 ghost use Rattle.reply_rows.specs.Refusing.{first_of};
-ghost use Rattle.sound_landing.specs.Submits.{IsAsked, MaySubmit};
+ghost use Rattle.depot_facts.specs.Submits.{IsAsked, MaySubmit};
 ghost use Rattle.step_stores.specs.Stored.{IsStoring};
 ghost use Rattle.submit_core.specs.Premises.{AreOpened, Reads};
 ghost use Rattle.submit_core.specs.Submitting.{HasSubmitted, front_refusals, last_refusals, submit_refusals};
