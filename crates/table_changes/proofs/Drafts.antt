@@ -1,9 +1,9 @@
 -- Drafts in the order of the tables' numbers: the draft of each table stands at its number.
-use Rattle.std.proofs.Common.{◌≡◌, ◌≢◌, ℕ, ◌<◌, Bool, true, false, List, [], ◌∷◌, ◌++◌, map, length, get_or, set, eqb, cond, Result, Ok, Err, OnOk, OnErr, refl, sym, ap, subst, ◌∙◌, zero-add, arith}
+use Rattle.std.proofs.Common.{◌≡◌, ◌≢◌, ℕ, ◌+◌, ◌<◌, Bool, true, false, List, [], ◌∷◌, ◌++◌, map, length, take, get_or, set, eqb, cond, Result, Ok, Err, OnOk, OnErr, refl, sym, ap, subst, ◌∙◌, zero-add, arith}
 use Rattle.std.proofs.Math.Path.{fun_ext}
 use Rattle.std.proofs.Math.Seq.{map-set_same}
 use Rattle.std.proofs.lemmas.Bool.Decides.{Decides-eqb}
-use Rattle.std.proofs.lemmas.List.{get_or-map, get_or_at, get_or_read, get_or-set_other, get_or-set_same, length-map, length-append}
+use Rattle.std.proofs.lemmas.List.{get_or-map, get_or_at, get_or_read, get_or-set_other, get_or-set_same, length-map, length-append, map-append, take_more}
 use Rattle.std.proofs.lemmas.List.FromFn.{get_or-range_with_len}
 use Rattle.table_store.specs.db_records.Record.{table_of}
 use Rattle.table_store.specs.db_records.Table.{table_number, all_tables}
@@ -182,3 +182,18 @@ versions_rows tables drafts is = ap rows_at is ∙ fun_ext each
     each Working = refl
     each ChangeTable = refl
     each Rev = refl
+
+-- one more draft
+pub drafts_more : (version : TableId → TableRows) (drafts : List TableRows) (i : ℕ) (draft : TableRows) → i < length all_tables → drafts ≡ map version (take i all_tables) → draft ≡ version (get_or all_tables i Counter) → drafts ++ draft ∷ [] ≡ map version (take (i + 1) all_tables)
+drafts_more version drafts i draft less so_far is =
+    ap (λ (l : List TableRows). l ++ draft ∷ []) so_far
+    ∙ ap (λ (d : TableRows). map version (take i all_tables) ++ d ∷ []) is
+    ∙ sym (map-append version (take i all_tables) (get_or all_tables i Counter ∷ []))
+    ∙ ap (map version) (sym (take_more all_tables i Counter less))
+
+pub numbers_more : (drafts : List TableRows) (i : ℕ) (draft : TableRows) → i < length all_tables → numbers_of drafts ≡ take i all_numbers → draft.table ≡ get_or all_tables i Counter → numbers_of (drafts ++ draft ∷ []) ≡ take (i + 1) all_numbers
+numbers_more drafts i draft less so_far own =
+    map-append (λ (d : TableRows). table_number d.table) drafts (draft ∷ [])
+    ∙ ap (λ (l : List ℕ). l ++ table_number draft.table ∷ []) so_far
+    ∙ ap (λ (n : ℕ). take i all_numbers ++ n ∷ []) (ap table_number own ∙ sym (get_or-map table_number all_tables i Counter 0 less))
+    ∙ sym (take_more all_numbers i 0 less)
