@@ -40,7 +40,7 @@ first_bad good changes n within are none =
       left_is = ap (λ (l : List Change). length (body_of l)) first.1.1;
     }
 
-if_told : (X : Type 0) (fault : OpenFault) (place : ℕ) (P : ℕ → Type 0) → Tells (λ _ _ found. found ≡ place) fault → P place → IfDamaged {X = X} (Err fault) P
+pub if_told : (X : Type 0) (fault : OpenFault) (place : ℕ) (P : ℕ → Type 0) → Tells (λ _ _ found. found ≡ place) fault → P place → IfDamaged {X = X} (Err fault) P
 if_told X Unmade place P is holds = tt
 if_told X (Damaged disk file found) place P is holds = subst P (sym is) holds
 if_told X DiskFault place P is holds = tt

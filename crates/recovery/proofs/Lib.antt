@@ -6,6 +6,7 @@ pub mod Fits
 pub mod Roots
 pub mod RootDamage
 pub mod FirstBad
+mod SomeMade
 pub mod Stopped
 pub mod GroupDamage
 pub mod OnePut

@@ -86,6 +86,35 @@ fn make_changes(
     Ok(())
 }
 
+/// Makes the changes of a group, which end where what was read of groups does, and keeps their rows.
+fn take_changes(
+    alloc: Global,
+    groups: &FileGroups,
+    draft: &mut TablesDraft,
+    changes: Sequence<Change>,
+) -> Result<(), OpenFault>
+    ensures fit { OnOk result (AllFitIn (rows_of_draft draft.old) changes) }
+    ensures rows { OnOk result (rows_of_draft draft.new ≡ changed_by (rows_of_draft draft.old) changes) }
+    ensures damaged { IfDamaged result (IsBadPlace (AllFitIn (rows_of_draft draft.old)) groups.now changes) }
+    ensures only { AllFitIn (rows_of_draft draft.old) changes → IfErr result SaysNothing }
+    ensures fault { IfErr result (IsOfFile groups.now.file) }
+    ensures no_disk { result ≢ Err DiskFault }
+{
+    let mut left = changes.into_vec();
+    left.reverse();
+    while let Some(change) = left.pop() {
+        if !draft.fits(&change) {
+            if left.push(change).is_err() {
+                return Err(OpenFault::Memory);
+            }
+            left.reverse();
+            return Err(groups.damaged_before(alloc, &left));
+        }
+        draft.take(alloc, change)?;
+    }
+    Ok(())
+}
+
 /// Takes the next record of a checkpoint, of which so many bytes are to come, makes its put in a draft, and answers how many
 /// bytes are behind it.
 fn put_next<D: Disk>(
@@ -241,7 +270,7 @@ pub(crate) fn read_journal<D: Disk>(
     let mut groups = FileGroups::open(disk, 1 + 2 * generation, Text::new(alloc), 1)?;
     let mut count = 0u64;
     while let Some(changes) = next_changes(alloc, disk, &mut groups, piece, draft)? {
-        make_changes(alloc, &groups, draft, changes.as_slice())?;
+        take_changes(alloc, &groups, draft, changes)?;
         count += 1;
     }
     Ok(JournalEnd {

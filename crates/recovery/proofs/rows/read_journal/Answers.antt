@@ -23,17 +23,17 @@ returns-in_err-changes-clause-only g c = λ files all read has fit.
     passed_on _ c.in_err-changes.field-0.0 SaysNothing c.from_residual-in_err-changes.ensures.1
     (c.in_err-changes.ensures.only files (inv.reads.same.kept files read) (inv.so_far.text files read).0 (small_number seen file c.loop-groups.count groups old now inv.so_far short) (next_wanted seen file c.loop-groups.count groups old now inv.so_far files read all has))
 
-pub returns-in_err-make_changes-clause-only : goal.returns-in_err-make_changes-clause-only
-returns-in_err-make_changes-clause-only g c = λ files all read has fit.
+pub returns-in_err-take_changes-clause-only : goal.returns-in_err-take_changes-clause-only
+returns-in_err-take_changes-clause-only g c = λ files all read has fit.
     let inv = c.loop-groups.invariant in
     let groups = c.loop-groups.groups in
     let come : HasCome groups c.next_changes.new.groups (Some c.in-Some.changes) = subst (HasCome groups c.next_changes.new.groups) c.in-Some.is c.in_ok-changes.ensures.come in
     let first = c.in_ok-changes.ensures.text files (inv.reads.same.kept files read) (inv.so_far.text files read).0 in
     let is_first = subst (IsFirst groups.reader.number (text_left groups files) (text_left c.next_changes.new.groups files)) c.in-Some.is first.1 in
-    passed_on _ c.in_err-make_changes.field-0.0 SaysNothing c.from_residual-in_err-make_changes.ensures.1 (
-    c.in_err-make_changes.ensures.only (subst (AllFitIn (rows_of_draft c.next_changes.new.draft)) (sym c.as_slice.ensures)
+    passed_on _ c.in_err-take_changes.field-0.0 SaysNothing c.from_residual-in_err-take_changes.ensures.1 (
+    c.in_err-take_changes.ensures.only
     (subst (λ (rows : AllRows). AllFitIn rows c.in-Some.changes) (sym c.in_ok-changes.ensures.draft)
-    (next_fit (g.D.Disk.says.seen c.args.disk.now) (1 + 2 * c.args.generation) c.loop-groups.count groups (rows_of_draft c.args.draft.now) (rows_of_draft c.loop-groups.draft) inv.so_far c.next_changes.new.groups c.in-Some.changes come files read is_first all has fit))))
+    (next_fit (g.D.Disk.says.seen c.args.disk.now) (1 + 2 * c.args.generation) c.loop-groups.count groups (rows_of_draft c.args.draft.now) (rows_of_draft c.loop-groups.draft) inv.so_far c.next_changes.new.groups c.in-Some.changes come files read is_first all has fit)))
 
 pub returns-in_err-changes-clause-damaged : goal.returns-in_err-changes-clause-damaged
 returns-in_err-changes-clause-damaged g c = λ files read.
@@ -44,18 +44,17 @@ returns-in_err-changes-clause-damaged g c = λ files read.
     passed_damage (Option (List Change)) P (IsJournalDamage (rows_of_draft c.args.draft.now) (files (1 + 2 * c.args.generation))) _ c.in_err-changes.field-0.0 c.from_residual-in_err-changes.ensures.1 (c.in_err-changes.ensures.damaged files (inv.reads.same.kept files read) (inv.so_far.text files read).0) (λ place bad.
     journal_text (g.D.Disk.says.seen c.args.disk.now) (1 + 2 * c.args.generation) c.loop-groups.count groups (rows_of_draft c.args.draft.now) now inv.so_far inv.front files read bad.0 place bad.1.0 bad.1.1)
 
-pub returns-in_err-make_changes-clause-damaged : goal.returns-in_err-make_changes-clause-damaged
-returns-in_err-make_changes-clause-damaged g c = λ files read.
+pub returns-in_err-take_changes-clause-damaged : goal.returns-in_err-take_changes-clause-damaged
+returns-in_err-take_changes-clause-damaged g c = λ files read.
     let inv = c.loop-groups.invariant in
     let groups = c.loop-groups.groups in
     let now = rows_of_draft c.loop-groups.draft in
     let come : HasCome groups c.next_changes.new.groups (Some c.in-Some.changes) = subst (HasCome groups c.next_changes.new.groups) c.in-Some.is c.in_ok-changes.ensures.come in
     let first = c.in_ok-changes.ensures.text files (inv.reads.same.kept files read) (inv.so_far.text files read).0 in
     let is_first = subst (IsFirst groups.reader.number (text_left groups files) (text_left c.next_changes.new.groups files)) c.in-Some.is first.1 in
-    passed_damage (Unit {0}) (IsBadPlace (AllFitIn (rows_of_draft c.next_changes.new.draft)) c.next_changes.new.groups c.as_slice.result.now) (IsJournalDamage (rows_of_draft c.args.draft.now) (files (1 + 2 * c.args.generation))) _ c.in_err-make_changes.field-0.0 c.from_residual-in_err-make_changes.ensures.1 c.in_err-make_changes.ensures.damaged (λ place bad.
+    passed_damage (Unit {0}) (IsBadPlace (AllFitIn (rows_of_draft c.next_changes.new.draft)) c.next_changes.new.groups c.in-Some.changes) (IsJournalDamage (rows_of_draft c.args.draft.now) (files (1 + 2 * c.args.generation))) _ c.in_err-take_changes.field-0.0 c.from_residual-in_err-take_changes.ensures.1 c.in_err-take_changes.ensures.damaged (λ place bad.
     journal_misfit (g.D.Disk.says.seen c.args.disk.now) (1 + 2 * c.args.generation) c.loop-groups.count groups (rows_of_draft c.args.draft.now) now inv.so_far inv.front c.next_changes.new.groups c.in-Some.changes come c.in_ok-changes.ensures.file.1 files read is_first place
-    (subst (λ (rows : AllRows). IsBadPlace (AllFitIn rows) c.next_changes.new.groups c.in-Some.changes place) c.in_ok-changes.ensures.draft
-    (subst (λ (l : List Change). IsBadPlace (AllFitIn (rows_of_draft c.next_changes.new.draft)) c.next_changes.new.groups l place) c.as_slice.ensures bad)))
+    (subst (λ (rows : AllRows). IsBadPlace (AllFitIn rows) c.next_changes.new.groups c.in-Some.changes place) c.in_ok-changes.ensures.draft bad))
 
 pub overflow_add-count : goal.overflow_add-count
 overflow_add-count g c =
@@ -73,9 +72,9 @@ loop-groups-preserved g c =
     let same : rows_of_draft c.next_changes.new.draft ≡ now = c.in_ok-changes.ensures.draft in
     let reads = c.next_changes.ensures.reads in
     record {
-      so_far = one_more (g.D.Disk.says.seen c.args.disk.now) (1 + 2 * c.args.generation) c.loop-groups.count groups (rows_of_draft c.args.draft.now) now inv.so_far c.next_changes.new.groups c.in-Some.changes come (rows_of_draft c.make_changes.new.draft)
-          (subst (λ (rows : AllRows). AllFitIn rows c.in-Some.changes) same (subst (AllFitIn (rows_of_draft c.next_changes.new.draft)) c.as_slice.ensures c.in_ok-make_changes.ensures.fit))
-          (c.in_ok-make_changes.ensures.rows ∙ ap (changed_by (rows_of_draft c.next_changes.new.draft)) c.as_slice.ensures ∙ ap (λ (rows : AllRows). changed_by rows c.in-Some.changes) same)
+      so_far = one_more (g.D.Disk.says.seen c.args.disk.now) (1 + 2 * c.args.generation) c.loop-groups.count groups (rows_of_draft c.args.draft.now) now inv.so_far c.next_changes.new.groups c.in-Some.changes come (rows_of_draft c.take_changes.new.draft)
+          (subst (λ (rows : AllRows). AllFitIn rows c.in-Some.changes) same c.in_ok-take_changes.ensures.fit)
+          (c.in_ok-take_changes.ensures.rows ∙ ap (λ (rows : AllRows). changed_by rows c.in-Some.changes) same)
           c.in_ok-changes.ensures.file.0
           (λ files read.
           let first = c.in_ok-changes.ensures.text files (inv.reads.same.kept files read) (inv.so_far.text files read).0 in
@@ -95,5 +94,5 @@ returns-in_err-groups-clause-unfailed g c = unless_passed c.from_residual.result
 pub returns-in_err-changes-clause-unfailed : goal.returns-in_err-changes-clause-unfailed
 returns-in_err-changes-clause-unfailed g c = unless_passed c.from_residual-in_err-changes.result c.in_err-changes.field-0.0 _ c.from_residual-in_err-changes.ensures.1 (λ other. c.in_err-changes.ensures.unfailed other ∙ c.loop-groups.invariant.faults)
 
-pub returns-in_err-make_changes-clause-unfailed : goal.returns-in_err-make_changes-clause-unfailed
-returns-in_err-make_changes-clause-unfailed g c = unless_anyway c.from_residual-in_err-make_changes.result _ (c.in_ok-changes.ensures.unfailed ∙ c.loop-groups.invariant.faults)
+pub returns-in_err-take_changes-clause-unfailed : goal.returns-in_err-take_changes-clause-unfailed
+returns-in_err-take_changes-clause-unfailed g c = unless_anyway c.from_residual-in_err-take_changes.result _ (c.in_ok-changes.ensures.unfailed ∙ c.loop-groups.invariant.faults)
