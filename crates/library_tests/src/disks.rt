@@ -1,9 +1,11 @@
 //! Disks in folders, step by step. The tests say the steps as data: a function that owns a disk, and each call in it, is dear to prove.
 
-use crate::machine::{is_cleared, is_free, is_linked, is_made, is_removed};
+use crate::machine::{is_cleared, is_free, is_made};
 use outside_api::{Disk, Failed};
 use real_world::FolderDisk;
+use std::fs::File;
 use std::io::ErrorKind;
+use std::rt::Files;
 
 /// What is asked of a disk and how it is answered, or what is done meanwhile beside it.
 #[derive(Clone, Copy)]
@@ -32,21 +34,17 @@ pub enum Step<'a> {
     IsFree(&'a str),
     /// A folder is made at a path.
     MakesFolder(&'a str),
-    /// A path is made to lead to another.
-    Links(&'a str, &'a str),
-    /// A file, or a link, is removed.
-    Removes(&'a str),
     /// A folder is removed with all that is in it.
     Clears(&'a str),
 }
 
 /// Whether bytes are written at a place of a file.
-fn writes(disk: &mut FolderDisk<'_, HostRuntime>, file: u32, at: u64, bytes: &[u8]) -> bool {
+fn writes<D: Disk>(disk: &mut D, file: u32, at: u64, bytes: &[u8]) -> bool {
     disk.write_at(file, at, bytes).is_ok()
 }
 
 /// Whether a read of up to eight bytes from a place of a file on gives these.
-fn reads(disk: &mut FolderDisk<'_, HostRuntime>, file: u32, at: u64, bytes: &[u8]) -> bool {
+fn reads<D: Disk>(disk: &mut D, file: u32, at: u64, bytes: &[u8]) -> bool {
     let mut buffer = [0u8; 8];
     match disk.read(file, at, &mut buffer) {
         Ok(count) => &buffer[..count] == bytes,
@@ -55,7 +53,7 @@ fn reads(disk: &mut FolderDisk<'_, HostRuntime>, file: u32, at: u64, bytes: &[u8
 }
 
 /// Whether a byte is written to each of ten files.
-fn writes_ten(disk: &mut FolderDisk<'_, HostRuntime>) -> bool {
+fn writes_ten<D: Disk>(disk: &mut D) -> bool {
     for file in 10..20 {
         if !writes(disk, file, 0, b"x") {
             return false;
@@ -88,7 +86,7 @@ fn refuses(rt: &HostRuntime, folder: &str) -> bool {
 }
 
 /// Whether a step is as it says.
-fn is_so(rt: &HostRuntime, disk: &mut FolderDisk<'_, HostRuntime>, step: Step) -> bool {
+fn is_so<D: Disk>(rt: &HostRuntime, disk: &mut D, step: Step) -> bool {
     match step {
         Step::HasLength(file, length) => disk.length(file) == Ok(length),
         Step::Reads(file, at, bytes) => reads(disk, file, at, bytes),
@@ -102,14 +100,12 @@ fn is_so(rt: &HostRuntime, disk: &mut FolderDisk<'_, HostRuntime>, step: Step) -
         Step::Refuses(folder) => refuses(rt, folder),
         Step::IsFree(path) => is_free(rt, path),
         Step::MakesFolder(path) => is_made(rt, path),
-        Step::Links(path, to) => is_linked(rt, path, to),
-        Step::Removes(path) => is_removed(rt, path),
         Step::Clears(path) => is_cleared(rt, path),
     }
 }
 
 /// Whether steps are as they say, one after another.
-pub fn are_so(rt: &HostRuntime, disk: &mut FolderDisk<'_, HostRuntime>, steps: &[Step]) -> bool {
+pub fn are_so<D: Disk>(rt: &HostRuntime, disk: &mut D, steps: &[Step]) -> bool {
     for step in steps {
         if !is_so(rt, disk, *step) {
             return false;
@@ -118,12 +114,22 @@ pub fn are_so(rt: &HostRuntime, disk: &mut FolderDisk<'_, HostRuntime>, steps: &
     true
 }
 
-/// Whether steps of a disk that is made over this folder, and then dropped, are as they say.
-pub fn plays(rt: &HostRuntime, folder: &str, steps: &[Step]) -> bool {
-    let Ok(mut disk) = FolderDisk::new(rt, rt.alloc(), folder) else {
+/// Whether steps of a disk that is made over this folder of these files, and then dropped, are as they say.
+pub fn plays_over<R: Files<File = File>>(
+    rt: &HostRuntime,
+    files: &R,
+    folder: &str,
+    steps: &[Step],
+) -> bool {
+    let Ok(mut disk) = FolderDisk::new(files, rt.alloc(), folder) else {
         return false;
     };
     let are_so = are_so(rt, &mut disk, steps);
     drop(disk);
     are_so
+}
+
+/// Whether steps of a disk that is made over this folder, and then dropped, are as they say.
+pub fn plays(rt: &HostRuntime, folder: &str, steps: &[Step]) -> bool {
+    plays_over(rt, rt, folder, steps)
 }

@@ -1,7 +1,9 @@
 //! Disks over a folder that another disk, or another program, has.
 
 use crate::disks::{Step, are_so, is_refused, plays};
-use crate::machine::{has_text, is_cleared, is_free, is_linked, is_made, is_removed, is_unmade};
+use crate::machine::{
+    has_text, is_cleared, is_free, is_linked, is_made, is_named, is_removed, is_unmade,
+};
 use real_world::FolderDisk;
 
 /// Whether a disk that is made over this folder reads these bytes of a file, and writes one more behind them.
@@ -74,6 +76,24 @@ fn a_folder_may_be_a_link_to_one(rt: HostRuntime) {
     assert!(rt; works(&rt, "link", b"abcd") && works(&rt, "volume", b"abcdw"));
     assert!(rt; has_text(&rt, "volume/0", "abcdww"));
     assert!(rt; is_removed(&rt, "link") && is_cleared(&rt, "volume"));
+}
+
+#[test]
+fn no_file_of_another_name_is_written(rt: HostRuntime) {
+    assert!(rt; works(&rt, "own", b""));
+    assert!(rt; is_linked(&rt, "own/1", "0") && is_named(&rt, "own/0", "own/2"));
+    let steps = [
+        Step::Reads(0, 0, b"w"),
+        Step::FailsToWrite(0),
+        Step::Reads(1, 0, b"w"),
+        Step::FailsToWrite(1),
+        Step::MakesFolder("own/3"),
+        Step::FailsToWrite(3),
+    ];
+    assert!(rt; plays(&rt, "own", &steps));
+    assert!(rt; has_text(&rt, "own/0", "w") && is_removed(&rt, "own/2"));
+    assert!(rt; is_unmade(&rt, "own/3") && works(&rt, "own", b"w"));
+    assert!(rt; is_cleared(&rt, "own"));
 }
 
 #[test]

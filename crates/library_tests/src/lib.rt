@@ -37,6 +37,9 @@ mod machine;
 /// A replica's `print`, over an archive in memory (`replica_answers`).
 #[cfg(test)]
 mod prints;
+/// Files of the machine, one of which refuses each sync.
+#[cfg(test)]
+mod refusing;
 /// Files that are read and written in turn, the doors to them, and the clock (`real_world`).
 #[cfg(test)]
 mod streams;

@@ -34,6 +34,11 @@ pub fn is_linked(rt: &HostRuntime, path: &str, to: &str) -> bool {
     symlink(rt, to, path).is_ok()
 }
 
+/// Whether a file is given a second name.
+pub fn is_named(rt: &HostRuntime, file: &str, name: &str) -> bool {
+    fs::hard_link(rt, file, name).is_ok()
+}
+
 /// Whether a file, or a link, is removed.
 pub fn is_removed(rt: &HostRuntime, path: &str) -> bool {
     fs::remove_file(rt, path).is_ok()

@@ -1,6 +1,6 @@
 //! Files that are read and written in turn, the doors to them, and the clock.
 
-use crate::machine::{has_text, is_free, is_removed, is_written};
+use crate::machine::{has_text, is_free, is_linked, is_named, is_removed, is_written};
 use outside_api::{Clock, Doors, Sink, Source};
 use real_world::{FileSink, FileSource, FolderDoors, PartyFile, SystemClock};
 use std::fs::File;
@@ -130,6 +130,18 @@ fn nothing_is_emptied_before_all_doors_are_open(rt: HostRuntime) {
     assert!(rt; is_free(&rt, "here.out.out"));
     assert!(rt; has_text(&rt, "here.out", "old replies"));
     assert!(rt; is_removed(&rt, "here") && is_removed(&rt, "here.out"));
+}
+
+#[test]
+fn replies_go_to_no_file_of_another_name(rt: HostRuntime) {
+    assert!(rt; is_written(&rt, "one", "x") && is_written(&rt, "one.out", "old replies"));
+    assert!(rt; is_written(&rt, "two", "x") && is_linked(&rt, "two.out", "one"));
+    assert!(rt; fail_at(&rt, "one", "two", "two", PartyFile::Replies));
+    assert!(rt; is_removed(&rt, "two.out") && is_named(&rt, "one", "two.out"));
+    assert!(rt; fail_at(&rt, "one", "two", "two", PartyFile::Replies));
+    assert!(rt; has_text(&rt, "one", "x") && has_text(&rt, "one.out", "old replies"));
+    assert!(rt; is_removed(&rt, "one") && is_removed(&rt, "one.out"));
+    assert!(rt; is_removed(&rt, "two") && is_removed(&rt, "two.out"));
 }
 
 #[test]

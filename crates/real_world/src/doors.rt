@@ -3,14 +3,14 @@
 ghost use Rattle.std.specs.Prelude.{◌≡◌, IfOk};
 
 use crate::count::Faults;
+use crate::regular::{make, open_alone};
 use crate::stream::{FileSink, FileSource};
 use arrayvec::ArrayString;
 use outside_api::{Doors, Failed};
 use std::alloc::{AllocError, Global};
-use std::fs::{File, OpenOptions};
+use std::fs::{File, TryLockError};
 use std::io;
 use std::io::ErrorKind;
-use std::os::unix::fs::MetadataExt;
 use std::rt::Files;
 
 /// A file of a party.
@@ -40,13 +40,14 @@ struct Party {
     replies: Option<File>,
 }
 
-/// The files of the current folder for the parties of these names: a party NAME has its script in the file NAME, and
-/// its replies go to the file `NAME.out`, which is made or emptied. It doesn't tell what they hold. Once it is made
-/// its calls take no memory.
+/// The files of the current folder for the parties of these names: a party NAME has its script in the file NAME, which
+/// may be anything that can be read, and its replies go to the file `NAME.out`, which is made, or emptied where it is a
+/// regular file that is no link and has no other name. It doesn't tell what they hold. Once it is made its calls take no
+/// memory.
 ///
-/// The first door opens the files of all names. It fails where one can't be opened, before any is where the replies
-/// of a name would go to the script of another, and where a link leads them to a script. Nothing is emptied before
-/// all are open.
+/// The first door opens the files of all names, and locks them (`flock`) until they are closed: the scripts for all who
+/// read, the replies for this party alone. It fails where one can't be opened, or another has the lock, and before any
+/// is opened where the replies of a name would go to the script of another. Nothing is emptied before all are open.
 #[derive(Drop)]
 pub struct FolderDoors<'a, R: Files<File = File>> {
     rt: &'a R,
@@ -59,6 +60,14 @@ pub struct FolderDoors<'a, R: Files<File = File>> {
 
 /// The most bytes of a file's name.
 const NAME: usize = 255;
+
+/// Why replies don't go to what stands at their path.
+const REFUSAL: &str =
+    "it is a link, has a second name or is no regular file; nothing was written: move it away";
+
+/// Why a file isn't used that another has locked.
+const HELD: &str =
+    "another program, or another name of this run, holds this file; nothing was written";
 
 /// The name of the file to which the replies of a party go, where a file can have it.
 fn replies_of(name: &str) -> Option<ArrayString<NAME>> {
@@ -93,15 +102,25 @@ fn check_names<'a>(names: &[&'a str]) -> Result<(), DoorFault<'a>> {
     Ok(())
 }
 
+/// Fails where another handle of a file has a lock that excludes the one that was asked. Where the file system has no
+/// locks none is taken.
+fn refuse_held(lock: Result<(), TryLockError>) -> io::Result<()> {
+    match lock {
+        Err(TryLockError::WouldBlock) => Err(io::Error::new(ErrorKind::ResourceBusy, HELD)),
+        Err(TryLockError::Error(_)) | Ok(()) => Ok(()),
+    }
+}
+
 /// Opens the script of a name.
 fn open_script<R: Files<File = File>>(
     rt: &R,
     name: &str,
     parties: &mut Vec<Party>,
 ) -> io::Result<()> {
-    let script = Some(File::open(rt, name)?);
+    let script = File::open(rt, name)?;
+    refuse_held(script.try_lock_shared())?;
     parties.push(Party {
-        script,
+        script: Some(script),
         replies: None,
     })?;
     Ok(())
@@ -125,13 +144,15 @@ fn open_scripts<'a, R: Files<File = File>>(
 
 /// Opens or makes the file to which the replies of a name go.
 fn open_reply<R: Files<File = File>>(rt: &R, name: &str, party: &mut Party) -> io::Result<()> {
-    let Some(replies) = replies_of(name) else {
+    let Some(path) = replies_of(name) else {
         return Err(io::Error::from(ErrorKind::InvalidFilename));
     };
-    let mut how = OpenOptions::new();
-    how.write(true);
-    how.create(true);
-    party.replies = Some(how.open(rt, replies.as_str())?);
+    let replies = match open_alone(rt, path.as_str(), REFUSAL)? {
+        Some(replies) => replies,
+        None => make(rt, path.as_str())?,
+    };
+    refuse_held(replies.try_lock())?;
+    party.replies = Some(replies);
     Ok(())
 }
 
@@ -151,45 +172,11 @@ fn open_replies<'a, R: Files<File = File>>(
     Ok(())
 }
 
-/// Whether two open files are one, by whatever names or links they were opened.
-fn are_one(one: &File, other: &File) -> io::Result<bool> {
-    let one = one.metadata()?;
-    let other = other.metadata()?;
-    Ok(one.dev() == other.dev() && one.ino() == other.ino())
-}
-
-/// Checks that the file to which replies go is the script of no party.
-fn check_reply(parties: &[Party], replies: &File) -> io::Result<()> {
-    for party in parties {
-        if let Some(script) = &party.script {
-            if are_one(script, replies)? {
-                let message = "it is a link to a script";
-                return Err(io::Error::new(ErrorKind::InvalidInput, message));
-            }
-        }
-    }
-    Ok(())
-}
-
-/// Checks that the files to which the replies go are no scripts.
-fn check_replies<'a>(names: &[&'a str], parties: &[Party]) -> Result<(), DoorFault<'a>> {
-    for (name, party) in names.iter().zip(parties) {
-        if let Some(replies) = &party.replies {
-            check_reply(parties, replies).map_err(|error| DoorFault {
-                name,
-                file: PartyFile::Replies,
-                error,
-            })?;
-        }
-    }
-    Ok(())
-}
-
-/// Empties the file to which the replies of a party go. What has no length, as a pipe, is left as it is.
+/// Empties the file to which the replies of a party go.
 fn empty_reply(party: &Party) -> io::Result<()> {
     match &party.replies {
-        Some(replies) if replies.metadata()?.len() > 0 => replies.set_len(0),
-        _ => Ok(()),
+        Some(replies) => replies.set_len(0),
+        None => Ok(()),
     }
 }
 
@@ -215,7 +202,6 @@ fn open_all<'a, R: Files<File = File>>(
     check_names(names)?;
     open_scripts(rt, names, parties)?;
     open_replies(rt, names, parties.as_mut_slice())?;
-    check_replies(names, parties.as_slice())?;
     empty_replies(names, parties.as_slice())
 }
 

@@ -4,8 +4,9 @@ ghost use Rattle.std.specs.Prelude.{◌<◌, ◌≤◌, IfOk, IfSome, length, ve
 
 use crate::interrupts::read_at;
 use crate::paths::Paths;
+use crate::regular::{found, make, open_alone};
 use std::alloc::{AllocError, Global};
-use std::fs::{File, OpenOptions};
+use std::fs::File;
 use std::io::ErrorKind;
 use std::os::unix::fs::FileExt;
 use std::rt::Files;
@@ -69,39 +70,33 @@ const ROOT_LENGTH: usize = 4_095;
 /// An open byte of the root.
 const OPEN: u8 = b'e';
 
+/// Why a file isn't opened.
+const REFUSAL: &str =
+    "one of its files is a link, has a second name or is no regular file: put a copy in its place";
+
 /// Opens a folder and takes its lock, where it is there.
 fn lock<R: Files<File = File>>(rt: &R, path: &str) -> io::Result<Option<File>> {
-    let Some(folder) = open(rt, path, Access::Reading)? else {
+    let Some(seen) = found(fs::metadata(rt, path))? else {
         return Ok(None);
     };
+    if !seen.is_dir() {
+        return Err(io::Error::from(ErrorKind::NotADirectory));
+    }
+    let folder = File::open(rt, path)?;
     folder.try_lock()?;
     Ok(Some(folder))
 }
 
-/// Opens a file, where it is there.
-fn open<R: Files<File = File>>(rt: &R, path: &str, access: Access) -> io::Result<Option<File>> {
-    let mut how = OpenOptions::new();
-    how.read(true);
-    how.write(access == Access::Writing);
-    match how.open(rt, path) {
-        Ok(file) => Ok(Some(file)),
-        Err(error) => {
-            if error.kind() == ErrorKind::NotFound {
-                Ok(None)
-            } else {
-                Err(error)
-            }
-        }
+/// Opens a file to read it, where it is there. It isn't opened where it is no regular file: to open a pipe would be to
+/// wait for its other end.
+fn open<R: Files<File = File>>(rt: &R, path: &str) -> io::Result<Option<File>> {
+    let Some(seen) = found(fs::metadata(rt, path))? else {
+        return Ok(None);
+    };
+    if !seen.is_file() {
+        return Err(io::Error::new(ErrorKind::InvalidInput, REFUSAL));
     }
-}
-
-/// Makes a file that isn't there.
-fn make<R: Files<File = File>>(rt: &R, path: &str) -> io::Result<File> {
-    let mut how = OpenOptions::new();
-    how.read(true);
-    how.write(true);
-    how.create_new(true);
-    how.open(rt, path)
+    found(File::open(rt, path))
 }
 
 /// Brings a file to the device where it was written since the last sync.
@@ -211,7 +206,7 @@ impl<'a, R: Files<File = File>> Folder<'a, R> {
         if let Some(place) = self.kept(number, Access::Reading) {
             return Ok(Some(place));
         }
-        match open(self.rt, self.paths.file(number)?, Access::Reading)? {
+        match open(self.rt, self.paths.file(number)?)? {
             Some(file) => Ok(Some(self.keep(number, Access::Reading, file)?)),
             None => Ok(None),
         }
@@ -227,7 +222,7 @@ impl<'a, R: Files<File = File>> Folder<'a, R> {
         if let Some(place) = self.kept(number, Access::Writing) {
             return Ok(place);
         }
-        let file = match open(self.rt, self.paths.file(number)?, Access::Writing)? {
+        let file = match open_alone(self.rt, self.paths.file(number)?, REFUSAL)? {
             Some(file) => file,
             None => {
                 self.is_named = true;

@@ -12,6 +12,7 @@ mod folder;
 mod interrupts;
 mod lines;
 mod paths;
+mod regular;
 mod stream;
 
 pub use clock::SystemClock;
