@@ -62,12 +62,10 @@ pub struct FolderDoors<'a, R: Files<File = File>> {
 const NAME: usize = 255;
 
 /// Why replies don't go to what stands at their path.
-const REFUSAL: &str =
-    "it is a link, has a second name or is no regular file; nothing was written: move it away";
+const REFUSAL: &str = "it is a link, has a second name or is no regular file: move it away";
 
 /// Why a file isn't used that another has locked.
-const HELD: &str =
-    "another program, or another name of this run, holds this file; nothing was written";
+const HELD: &str = "another program, or another name of this run, holds it: nothing was written";
 
 /// The name of the file to which the replies of a party go, where a file can have it.
 fn replies_of(name: &str) -> Option<ArrayString<NAME>> {

@@ -72,7 +72,7 @@ const OPEN: u8 = b'e';
 
 /// Why a file isn't opened.
 const REFUSAL: &str =
-    "one of its files is a link, has a second name or is no regular file: put a copy in its place";
+    "one of its files is a link, has a second name or is no regular file: copy it";
 
 /// Opens a folder and takes its lock, where it is there.
 fn lock<R: Files<File = File>>(rt: &R, path: &str) -> io::Result<Option<File>> {
