@@ -9,7 +9,7 @@ import tempfile
 import time
 
 
-def instructions(program: str, head: str, commands: list[str]) -> list[int]:
+def instructions(program: str, head: str, commands: "list[str]") -> "list[int]":
     """What each command behind the first takes, up to its reply, of a session over the depot of the current folder; a command may have its blocks in front.
 
     The script comes through a pipe, which the program reads when the depot is open. Only then the counting begins, which makes it some fifty times slower, and
