@@ -39,12 +39,22 @@ pub enum Step<'a> {
 }
 
 /// Whether bytes are written at a place of a file.
-fn writes<D: Disk>(disk: &mut D, file: u32, at: u64, bytes: &[u8]) -> bool {
+fn writes<R: Files<File = File>>(
+    disk: &mut FolderDisk<'_, R>,
+    file: u32,
+    at: u64,
+    bytes: &[u8],
+) -> bool {
     disk.write_at(file, at, bytes).is_ok()
 }
 
 /// Whether a read of up to eight bytes from a place of a file on gives these.
-fn reads<D: Disk>(disk: &mut D, file: u32, at: u64, bytes: &[u8]) -> bool {
+fn reads<R: Files<File = File>>(
+    disk: &mut FolderDisk<'_, R>,
+    file: u32,
+    at: u64,
+    bytes: &[u8],
+) -> bool {
     let mut buffer = [0u8; 8];
     match disk.read(file, at, &mut buffer) {
         Ok(count) => &buffer[..count] == bytes,
@@ -53,7 +63,7 @@ fn reads<D: Disk>(disk: &mut D, file: u32, at: u64, bytes: &[u8]) -> bool {
 }
 
 /// Whether a byte is written to each of ten files.
-fn writes_ten<D: Disk>(disk: &mut D) -> bool {
+fn writes_ten<R: Files<File = File>>(disk: &mut FolderDisk<'_, R>) -> bool {
     for file in 10..20 {
         if !writes(disk, file, 0, b"x") {
             return false;
@@ -86,7 +96,11 @@ fn refuses(rt: &HostRuntime, folder: &str) -> bool {
 }
 
 /// Whether a step is as it says.
-fn is_so<D: Disk>(rt: &HostRuntime, disk: &mut D, step: Step) -> bool {
+fn is_so<R: Files<File = File>>(
+    rt: &HostRuntime,
+    disk: &mut FolderDisk<'_, R>,
+    step: Step,
+) -> bool {
     match step {
         Step::HasLength(file, length) => disk.length(file) == Ok(length),
         Step::Reads(file, at, bytes) => reads(disk, file, at, bytes),
@@ -105,7 +119,11 @@ fn is_so<D: Disk>(rt: &HostRuntime, disk: &mut D, step: Step) -> bool {
 }
 
 /// Whether steps are as they say, one after another.
-pub fn are_so<D: Disk>(rt: &HostRuntime, disk: &mut D, steps: &[Step]) -> bool {
+pub fn are_so<R: Files<File = File>>(
+    rt: &HostRuntime,
+    disk: &mut FolderDisk<'_, R>,
+    steps: &[Step],
+) -> bool {
     for step in steps {
         if !is_so(rt, disk, *step) {
             return false;
