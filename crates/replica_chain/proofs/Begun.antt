@@ -3,8 +3,8 @@ use Rattle.std.proofs.Common.{◌≡◌, ◌⊎◌, inl, inr, ℕ, ◌+◌, ◌<
 use Rattle.std.specs.Prelude.{map}
 use Rattle.outside_api.specs.Link.{IsEarlier}
 use Rattle.outside_api.specs.Moments.{LeavesOnly, weaker}
-use Rattle.outside_api.specs.Reaching.{once}
 use Rattle.outside_api.specs.Says.{DiskSays}
+use Rattle.archive_file.specs.Archive.{used_of}
 use Rattle.checkpoint_file.specs.Checkpoint.{IsCheckpointOf, checkpoint_text, puts_of}
 use Rattle.depot_rows.specs.table_changes.Changed.{AllRows, changed_in, rows_of}
 use Rattle.depot_rows.specs.table_store.declared.tables.Tables.{Tables}
@@ -16,9 +16,8 @@ use Rattle.recovery.specs.Holding.{HasAllRows, group_texts}
 use Rattle.replica_pull.specs.Replica.{beginning}
 use Rattle.replica_chain.specs.Chronicle.{Chronicle, rows_made, texts_of, with_beginning}
 use Rattle.replica_chain.specs.Ends.{KeepsScanned}
-use Rattle.replica_chain.specs.Masters.{GoesOnBehind, HasNoFewer, HaveSomeOf, IsBehind, Upstream}
-use Rattle.replica_chain.specs.Moments.{LeavePairs}
-use Rattle.replica_chain.specs.Node.{CanFollow, IsNode, IsSettled, files_of}
+use Rattle.replica_chain.specs.Masters.{GoesOnBehind, HasNoFewer, HasSomeOf, IsBehind, Upstream}
+use Rattle.replica_chain.specs.Node.{CanFollow, IsNode, IsSettled}
 use Rattle.replica_chain.specs.Pulling.{HasPassed, IsUnpassed, IsWhereItWas}
 use Rattle.replica_chain.specs.declared.fault.NodeFault.{NodeFault}
 use Rattle.replica_chain.specs.declared.fault.NodeFault.TheVariants.{DiskFault, Memory}
@@ -30,7 +29,7 @@ use Rattle.replica_chain.proofs.Grouping.{settled_stands}
 use Rattle.replica_chain.proofs.Growing.{earlier_begun, earlier_self}
 use Rattle.replica_chain.proofs.Rests.{with_link}
 use Rattle.replica_chain.proofs.Settled.{settled_can, where_settled}
-use Rattle.replica_chain.proofs.Steps.{all_earlier, some_behind}
+use Rattle.replica_chain.proofs.Steps.{all_earlier, some_doubted}
 
 -- what was written of a checkpoint is still as it was, or in doubt
 pub in_doubt : {A : Type 0} (S K : List ℕ → Type 0) {text other : List ℕ} → text ≡ other → A ⊎ S text → K text → A ⊎ (S other × K other)
@@ -74,37 +73,31 @@ module _ {D : Type 0} (disk_says : DiskSays D) (old : Node D) (settled : IsSettl
 
     module _ (older : (before : List (List (List ℕ))) → KeepsOlder disk_says old.link.journal before → KeepsOlder disk_says link.journal before) (scanned : KeepsScanned disk_says old.link link) where
       unwritten_node : (c : Chronicle) (n : IsNode disk_says old c) → IsUnwritten n.was → IsNode disk_says (with_link old link) c
-      unwritten_node c n (inl still) = unpassed_node disk_says old (with_link old link) c n settled refl older scanned unwritten_where still.stands
+      unwritten_node c n (inl still) = unpassed_node disk_says old (with_link old link) c n refl older scanned unwritten_where still.stands
       unwritten_node c n (inr doubted) =
-          opening_node disk_says old (with_link old link) c n settled refl older scanned unwritten_where text doubted.0
+          opening_node disk_says old (with_link old link) c n refl older scanned unwritten_where text doubted.0
           (has_next disk_says old c n rows next next_is last made (doubted.1 (texts_next disk_says old c n rows next next_is last made)))
 
       pub unwritten_fewer : (c : Chronicle) → IsNode disk_says old c → HasNoFewer disk_says (with_link old link) c
       unwritten_fewer c n = record { now = c; no_fewer = earlier_self c; is_node = unwritten_node c n (found n.was (settled_stands disk_says old c n settled)) }
 
       unwritten_behind : (c : Chronicle) (up : Upstream) (b : IsBehind disk_says old c up) → IsEarlier (texts_of (with_beginning c)) up.texts → IsUnwritten b.is_node.was → IsBehind disk_says (with_link old link) c up
-      unwritten_behind c up b e (inl still) = unpassed_behind disk_says old (with_link old link) c up b settled refl older scanned unwritten_where refl still.stands
+      unwritten_behind c up b e (inl still) = unpassed_behind disk_says old (with_link old link) c up b refl older scanned unwritten_where refl still.stands
       unwritten_behind c up b e (inr doubted) =
-          opening_behind disk_says old (with_link old link) c up b settled refl older scanned unwritten_where refl text e
+          opening_behind disk_says old (with_link old link) c up b refl older scanned unwritten_where refl text e
           (has_next disk_says old c b.is_node rows next next_is last made (doubted.1 (texts_next disk_says old c b.is_node rows next next_is last made))) doubted.0
 
-      -- each pair of images since has some of the changes upstream
+      -- each image of its journal since has some of the changes upstream
       unwritten_moments : (c : Chronicle) (up : Upstream) (b : IsBehind disk_says old c up) → IsEarlier (texts_of (with_beginning c)) up.texts → IsUnwritten b.is_node.was
-          → LeavesOnly disk_says (disk_of old.link.journal) (disk_of link.journal) (HasEither b.is_node.was (with_generation b.is_node.was text)) → LeavePairs disk_says (HaveSomeOf c up) (files_of old) (files_of (with_link old link))
+          → LeavesOnly disk_says (disk_of old.link.journal) (disk_of link.journal) (HasEither b.is_node.was (with_generation b.is_node.was text)) → LeavesOnly disk_says (disk_of old.link.journal) (disk_of link.journal) (HasSomeOf c up.texts (used_of old.archive))
       unwritten_moments c up b e (inl still) moments =
           let n = b.is_node in
-          let ends = n.contents.ends in
-          once (inl (
-            refl,
-            weaker disk_says (disk_of old.link.journal) (disk_of link.journal) (HasCommitted n.was) _ (some_behind disk_says old c up b nothing c refl n.has (all_earlier disk_says old c up b) (omega (arith, ends))) still.any_moment,
-          ))
+          weaker disk_says (disk_of old.link.journal) (disk_of link.journal) (HasCommitted n.was) _
+          (λ journal. some_doubted disk_says old c n up.texts (used_of old.archive) n.contents.ends journal nothing c refl n.has (all_earlier disk_says old c up b) n.contents.ends) still.any_moment
       unwritten_moments c up b e (inr doubted) moments =
           let n = b.is_node in
-          once (inl (
-            refl,
-            weaker disk_says (disk_of old.link.journal) (disk_of link.journal) (HasEither n.was (with_generation n.was text)) _
-                (passed_moment disk_says old (with_link old link) c up b settled refl text e (has_next disk_says old c n rows next next_is last made (doubted.1 (texts_next disk_says old c n rows next next_is last made)))) moments,
-          ))
+          weaker disk_says (disk_of old.link.journal) (disk_of link.journal) (HasEither n.was (with_generation n.was text)) _
+          (passed_moment disk_says old (with_link old link) c up b refl text e (has_next disk_says old c n rows next next_is last made (doubted.1 (texts_next disk_says old c n rows next next_is last made)))) moments
 
       pub unwritten_goes : ((was : Committed) → Stands disk_says old.link.journal was nothing → LeavesOnly disk_says (disk_of old.link.journal) (disk_of link.journal) (HasEither was (with_generation was text)))
           → (c : Chronicle) (up : Upstream) → IsBehind disk_says old c up → IsEarlier (texts_of (with_beginning c)) up.texts
@@ -113,15 +106,12 @@ module _ {D : Type 0} (disk_says : DiskSays D) (old : Node D) (settled : IsSettl
           let n = b.is_node in
           let stands = settled_stands disk_says old c n settled in
           record {
-            now = c;
-            no_fewer = earlier_self c;
             later = up;
             grown = inl refl;
             more = front_itself up.bytes;
             texts_told = refl;
             bytes_told = refl;
-            behind = unwritten_behind c up b e (found n.was stands);
-            any_moment = unwritten_moments c up b e (found n.was stands) (moments n.was stands);
+            stays = record { now = c; no_fewer = earlier_self c; behind = unwritten_behind c up b e (found n.was stands); any_moment = unwritten_moments c up b e (found n.was stands) (moments n.was stands) };
           }
 
   -- ---- it was begun
@@ -142,12 +132,12 @@ module _ {D : Type 0} (disk_says : DiskSays D) (old : Node D) (settled : IsSettl
     }
 
     module _ (generation : generation_of_journal link.journal ≡ next) (written : (was : Committed) → Stands disk_says old.link.journal was nothing → Stands disk_says link.journal (with_generation was text) nothing) where
-      pub begun_can : CanFollow disk_says old → tables.archive_end ≡ old.tables.archive_end → CanFollow disk_says begun
-      begun_can can end = record {
+      pub begun_can : CanFollow disk_says old → CanFollow disk_says begun
+      begun_can can = record {
         was = with_generation settled.0 text;
         doubt = nothing;
         stands = written settled.0 settled.1;
-        archive_end = end ∙ can.archive_end;
+        archive_end = can.archive_end;
         room = can.room;
         short = (let short = can.short in omega (arith, short, ap length none));
         numbered = omega arith;
@@ -165,7 +155,7 @@ module _ {D : Type 0} (disk_says : DiskSays D) (old : Node D) (settled : IsSettl
             record {
               now = with_beginning c;
               no_fewer = earlier_begun c;
-              is_node = passed_node disk_says old begun c n settled refl text (begun_passed generation) (written n.was stands) (closes n.was (map (group_texts 1) c.closed) stands n.keeps) scanned (begun_has c n);
+              is_node = passed_node disk_says old begun c n refl text (begun_passed generation) (written n.was stands) (closes n.was (map (group_texts 1) c.closed) stands n.keeps) scanned (begun_has c n);
             }
 
         pub begun_goes : ((was : Committed) → Stands disk_says old.link.journal was nothing → LeavesOnly disk_says (disk_of old.link.journal) (disk_of link.journal) (HasEither was (with_generation was text)))
@@ -175,16 +165,15 @@ module _ {D : Type 0} (disk_says : DiskSays D) (old : Node D) (settled : IsSettl
             let n = b.is_node in
             let stands = settled_stands disk_says old c n settled in
             record {
-              now = with_beginning c;
-              no_fewer = earlier_begun c;
               later = up;
               grown = inl refl;
               more = front_itself up.bytes;
               texts_told = refl;
               bytes_told = refl;
-              behind = passed_behind disk_says old begun c up b settled refl text e (begun_has c n) (begun_passed generation) (written n.was stands) (closes n.was (map (group_texts 1) c.closed) stands n.keeps) scanned;
-              any_moment = once (inl (
-                refl,
-                weaker disk_says (disk_of old.link.journal) (disk_of link.journal) (HasEither n.was (with_generation n.was text)) _ (passed_moment disk_says old begun c up b settled refl text e (begun_has c n)) (moments n.was stands),
-              ));
+              stays = record {
+                now = with_beginning c;
+                no_fewer = earlier_begun c;
+                behind = passed_behind disk_says old begun c up b refl text e (begun_has c n) (begun_passed generation) (written n.was stands) (closes n.was (map (group_texts 1) c.closed) stands n.keeps) scanned;
+                any_moment = weaker disk_says (disk_of old.link.journal) (disk_of link.journal) (HasEither n.was (with_generation n.was text)) _ (passed_moment disk_says old begun c up b refl text e (begun_has c n)) (moments n.was stands);
+              };
             }

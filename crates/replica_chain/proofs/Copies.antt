@@ -6,7 +6,7 @@ use native.Mathlib.Decide.{ℕ_discrete}
 use Rattle.outside_api.specs.Disk.{Files}
 use Rattle.outside_api.specs.Link.{IsEarlier, text_of}
 use Rattle.outside_api.specs.Says.{DiskSays}
-use Rattle.archive_file.specs.Archive.{Has, disk_of as archive_disk_of}
+use Rattle.archive_file.specs.Archive.{Has, disk_of as archive_disk_of, used_of}
 use Rattle.depot_rows.specs.depot_path.Path.{printed}
 use Rattle.depot_rows.specs.db_records.declared.key.Key.TheVariants as keys
 use Rattle.depot_rows.specs.db_records.declared.record.Record.TheVariants.{Rev as RevRow}
@@ -26,7 +26,7 @@ use Rattle.replica_pull.proofs.Counted.{empty_no_group}
 use Rattle.replica_chain.specs.Apart.{AreAlike, IsClosedIn}
 use Rattle.replica_chain.specs.Chronicle.{Chronicle, changes_of, generations_of, rows_made, texts_of}
 use Rattle.replica_chain.specs.Masters.{IsBehind, IsDepotOf}
-use Rattle.replica_chain.specs.Node.{IsNode, IsPending, reach_of}
+use Rattle.replica_chain.specs.Node.{IsNode, IsPending}
 use Rattle.replica_chain.specs.Opening.{AreWritten, IsFresh}
 use Rattle.replica_chain.specs.declared.node.Node.{Node}
 use Rattle.replica_chain.proofs.Chains.{same_at}
@@ -116,11 +116,8 @@ module _ {D : Type 0} (disk_says : DiskSays D) (node : Node D) (c : Chronicle) (
   pending_is : n.pending ≡ c
   pending_is = subst (λ (doubt : Doubtful). IsPending c doubt n.pending) (none_doubted n.doubt (node.link.journal.end.groups + 1) node.link.journal.doubt fresh.settled.1.known n.stands.known) n.is_pending
 
-  reach_is : reach_of node.archive (rows_made n.pending) ≡ place
-  reach_is =
-      let used = fresh.used ∙ ap (λ (rows : AllRows). spots_end (rows Rev)) n.rows in
-      let pending = ap (λ (p : Chronicle). spots_end (rows_made p Rev)) pending_is in
-      omega (arith, used, pending)
+  used_is : used_of node.archive ≡ place
+  used_is = fresh.used ∙ ap (λ (rows : AllRows). spots_end (rows Rev)) n.rows
 
   -- where its journal is an earlier one, and its archive begins with the bytes as far as the spots of its rows, it is behind
   pub fresh_behind : place ≤ length bytes → ((image : Files) → disk_says.may_leave (archive_disk_of node.archive) image → take place (image 0) ≡ take place bytes) → IsBehind disk_says node c (record { texts = texts; bytes = bytes })
@@ -130,10 +127,8 @@ module _ {D : Type 0} (disk_says : DiskSays D) (node : Node D) (c : Chronicle) (
     rest = subst (λ (l : List ℕ). Has (text_of texts (length c.closed)) (record { at = node.at; length = length l }) l) (sym fresh.rest) (record { within = (let front = (front_of c texts earlier).within in let at = n.at in omega (arith, front, at)); is = refl });
     no_group = subst (HasNoGroup node.number) (sym fresh.rest) (empty_no_group node.number);
     front = record {
-      within = omega (arith, reach_is, within);
-      has = λ image left.
-          let there = (n.contents.front.has image left).within in
-          record { within = omega (arith, there); is = ap (λ (k : ℕ). take k (image 0)) reach_is ∙ same image left ∙ ap (λ (k : ℕ). take k bytes) (sym reach_is) };
+      within = omega (arith, used_is, within);
+      has = λ image left. record { within = (n.contents.front.has image left).within; is = ap (λ (k : ℕ). take k (image 0)) used_is ∙ same image left ∙ ap (λ (k : ℕ). take k bytes) (sym used_is) };
     };
   }
 

@@ -2,6 +2,7 @@
 use Rattle.std.proofs.Common.{◌≡◌, ◌⊎◌, inl, inr, ℕ, ◌+◌, ◌≤◌, List, length, take, Result, Ok, Err, sym, ap, subst, ◌∙◌, arith}
 use Rattle.std.specs.Result.{IsErrAnd}
 use Rattle.outside_api.specs.Count.{HasRisen}
+use Rattle.outside_api.specs.Disk.{Files}
 use Rattle.outside_api.specs.Link.{Answers, Fits, IsEarlier, text_of}
 use Rattle.outside_api.specs.Says.{DiskSays, LinkSays}
 use Rattle.outside_api.specs.declared.link.Fetched.{Fetched}
@@ -65,30 +66,24 @@ module _ {D : Type 0} (disk_says : DiskSays D) (c : Chronicle) (up : Upstream) (
 
   pub goes_later : (old new : Node D) (T : List (List ℕ) → Type 0) (B : List ℕ → Type 0) → T now → GoesOnBehind disk_says old new c told_now (λ texts. texts ≡ now) B → GoesOnBehind disk_says old new c up T B
   goes_later old new T B told step = record {
-    now = step.now;
-    no_fewer = step.no_fewer;
     later = step.later;
     grown = grown_on up.texts now step.later.texts (inr more) step.grown;
     more = step.more;
     texts_told = subst T (sym step.texts_told) told;
     bytes_told = step.bytes_told;
-    behind = step.behind;
-    any_moment = step.any_moment;
+    stays = step.stays;
   }
 
 -- what is told otherwise
 pub told_as : {D : Type 0} (disk_says : DiskSays D) (old new : Node D) (c : Chronicle) (up : Upstream) (S T : List (List ℕ) → Type 0) (B E : List ℕ → Type 0) → ((texts : List (List ℕ)) → S texts → T texts)
     → ((bytes : List ℕ) → B bytes → E bytes) → GoesOnBehind disk_says old new c up S B → GoesOnBehind disk_says old new c up T E
 told_as disk_says old new c up S T B E texts_lead bytes_lead step = record {
-  now = step.now;
-  no_fewer = step.no_fewer;
   later = step.later;
   grown = step.grown;
   more = step.more;
   texts_told = texts_lead step.later.texts step.texts_told;
   bytes_told = bytes_lead step.later.bytes step.bytes_told;
-  behind = step.behind;
-  any_moment = step.any_moment;
+  stays = step.stays;
 }
 
 -- what was fetched behind what a node has
@@ -114,10 +109,10 @@ fetched_stands disk_says node c up n_is link_says link n buffer piece f is told 
     (piece_has a.0 up.texts (generation_of_journal node.link.journal) (node.at + length node.rest) n buffer piece a.1.0 a.1.1 is)
 
 -- a node that did nothing
-pub unmoved_goes : {D : Type 0} (disk_says : DiskSays D) (node : Node D) (c : Chronicle) (up : Upstream) (T : List (List ℕ) → Type 0) (B : List ℕ → Type 0)
-    → B up.bytes → IsBehind disk_says node c up → (now : List (List ℕ)) → T now → IsEarlier up.texts now → GoesOnBehind disk_says node node c up T B
-unmoved_goes disk_says node c up T B bytes b now told more =
-    goes_later disk_says c up now more node node T B told (at_first disk_says node c (told_now disk_says c up now more) B bytes (behind_later disk_says c up now more node b))
+pub unmoved_goes : {D : Type 0} (disk_says : DiskSays D) → ((disk : D) (image : Files) → disk_says.left_since disk (disk_says.moment disk) image → disk_says.may_leave disk image) → (node : Node D) (c : Chronicle) (up : Upstream)
+    (T : List (List ℕ) → Type 0) (B : List ℕ → Type 0) → B up.bytes → IsBehind disk_says node c up → (now : List (List ℕ)) → T now → IsEarlier up.texts now → GoesOnBehind disk_says node node c up T B
+unmoved_goes disk_says only_now node c up T B bytes b now told more =
+    goes_later disk_says c up now more node node T B told (at_first disk_says only_now node c (told_now disk_says c up now more) B bytes (behind_later disk_says c up now more node b))
 
 -- ---- another link, of the same generation, before
 

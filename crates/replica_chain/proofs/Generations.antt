@@ -1,6 +1,6 @@
 -- A node that passes to the next generation.
 use Rattle.std.proofs.Common.{◌≡◌, ℕ, ◌+◌, ◌<◌, ◌≤◌, List, [], ◌∷◌, ◌++◌, length, refl, sym, ap, subst, ◌∙◌, arith, length-append}
-use Rattle.std.specs.Prelude.{map, max}
+use Rattle.std.specs.Prelude.{map}
 use Rattle.std.specs.List.{AllByRecursion, concat}
 use Rattle.std.proofs.lemmas.List.{append-nil, map-append}
 use Rattle.outside_api.specs.Disk.{Files}
@@ -26,37 +26,26 @@ use Rattle.replica_pull.specs.Replica.{beginning}
 use Rattle.replica_pull.proofs.Counted.{empty_no_group}
 use Rattle.replica_chain.specs.Chronicle.{Chronicle, changes_of, generations_of, rows_made, texts_of, with_beginning}
 use Rattle.replica_chain.specs.Ends.{KeepsScanned}
-use Rattle.replica_chain.specs.Masters.{HaveSomeOf, IsBehind, Upstream}
-use Rattle.replica_chain.specs.Node.{HasContentsOf, HasFrontTo, IsNode, IsSettled, reach_of}
+use Rattle.replica_chain.specs.Masters.{HasSomeOf, IsBehind, Upstream}
+use Rattle.replica_chain.specs.Node.{HasContentsOf, HasFrontTo, IsNode}
 use Rattle.replica_chain.specs.Pulling.{HasPassed, IsWhereItWas}
 use Rattle.replica_chain.specs.declared.node.Node.{Node}
 use Rattle.recovery.proofs.OneGroup.{all-push}
-use Rattle.replica_chain.proofs.Grouping.{settled_contents}
 use Rattle.replica_chain.proofs.Growing.{changes_begun, rows_begun, texts_are}
-use Rattle.replica_chain.proofs.Nodes.{no_doubt, none_pending, same_node}
-use Rattle.replica_chain.proofs.Steps.{all_earlier, its_generation, some_behind}
+use Rattle.replica_chain.proofs.Nodes.{same_node}
+use Rattle.replica_chain.proofs.Steps.{all_earlier, its_generation, some_doubted}
 
 -- the counter's change has a text
 pub beginning_text : (generation : ℕ) → generation ≤ 4095 → AreRecords (beginning generation ∷ [])
 beginning_text generation le = (((refl, ((omega arith, omega (arith, le)), tt)), tt), tt)
 
 -- contents are those of rows with the same revisions
-contents_of_same : {D : Type 0} (disk_says : DiskSays D) (archive : Archive D) (rows before after : AllRows) → after Rev ≡ before Rev → HasContentsOf disk_says archive rows before → HasContentsOf disk_says archive rows after
-contents_of_same disk_says archive rows before after same has = record {
+contents_of_same : {D : Type 0} (disk_says : DiskSays D) (archive : Archive D) (before after : AllRows) → after Rev ≡ before Rev → HasContentsOf disk_says archive before → HasContentsOf disk_says archive after
+contents_of_same disk_says archive before after same has = record {
   bytes = has.bytes;
-  front = subst (λ (l : List Record). HasFrontTo (disk_says.may_leave (archive_disk_of archive)) (max (used_of archive) (spots_end l)) has.bytes) (sym same) has.front;
-  ends = has.ends;
-  whole = has.whole;
-  pending_whole = subst (AreWhole has.bytes) (sym same) has.pending_whole;
-}
-
-both_of_same : {D : Type 0} (disk_says : DiskSays D) (archive : Archive D) (before after : AllRows) → after Rev ≡ before Rev → HasContentsOf disk_says archive before before → HasContentsOf disk_says archive after after
-both_of_same disk_says archive before after same has = record {
-  bytes = has.bytes;
-  front = subst (λ (l : List Record). HasFrontTo (disk_says.may_leave (archive_disk_of archive)) (max (used_of archive) (spots_end l)) has.bytes) (sym same) has.front;
+  front = has.front;
   ends = subst (λ (l : List Record). spots_end l ≤ used_of archive) (sym same) has.ends;
   whole = subst (AreWhole has.bytes) (sym same) has.whole;
-  pending_whole = subst (AreWhole has.bytes) (sym same) has.whole;
 }
 
 pub bytes_joined : (xs ys : List (List ℕ)) → length (concat (xs ++ ys)) ≡ length (concat xs) + length (concat ys)
@@ -75,15 +64,15 @@ bytes_closed c =
 all_push_last : (generations : List (List (List Change))) → AllByRecursion (AllByRecursion IsGroup) generations → AllByRecursion (AllByRecursion IsGroup) (generations ++ [] ∷ [])
 all_push_last generations are = all-push (AllByRecursion IsGroup) generations [] are tt
 
-module _ {D : Type 0} (disk_says : DiskSays D) (old new : Node D) (c : Chronicle) (n : IsNode disk_says old c) (settled : IsSettled disk_says old) (same : new.archive ≡ old.archive) where
+module _ {D : Type 0} (disk_says : DiskSays D) (old new : Node D) (c : Chronicle) (n : IsNode disk_says old c) (same : new.archive ≡ old.archive) where
   abbrev next : Chronicle
   next = with_beginning c
 
-  revisions : rows_made next Rev ≡ rows_made c Rev
-  revisions = ap (λ (rows : AllRows). rows Rev) (rows_begun c)
+  its_contents : HasContentsOf disk_says new.archive (rows_made c)
+  its_contents = subst (λ (archive : Archive D). HasContentsOf disk_says archive (rows_made c)) (sym same) n.contents
 
-  its_contents : HasContentsOf disk_says new.archive (rows_made c) (rows_made c)
-  its_contents = subst (λ (archive : Archive D). HasContentsOf disk_says archive (rows_made c) (rows_made c)) (sym same) (settled_contents disk_says old c n settled)
+  next_contents : HasContentsOf disk_says new.archive (rows_made next)
+  next_contents = contents_of_same disk_says new.archive (rows_made c) (rows_made next) (ap (λ (rows : AllRows). rows Rev) (rows_begun c)) its_contents
 
   sees : (files : Files) × disk_says.seen (archive_disk_of new.archive) files
   sees = subst (λ (archive : Archive D). (files : Files) × disk_says.seen (archive_disk_of archive) files) (sym same) n.tells
@@ -94,12 +83,12 @@ module _ {D : Type 0} (disk_says : DiskSays D) (old new : Node D) (c : Chronicle
   module _ (older : (before : List (List (List ℕ))) → KeepsOlder disk_says old.link.journal before → KeepsOlder disk_says new.link.journal before) (scanned : KeepsScanned disk_says old.link new.link) (where_is : IsWhereItWas old new) where
     -- nothing was written
     pub unpassed_node : Stands disk_says new.link.journal n.was nothing → IsNode disk_says new c
-    unpassed_node stands = same_node disk_says old new c n where_is nothing c stands older scanned refl n.has sees.0 sees.1 its_contents
+    unpassed_node stands = same_node disk_says old new c n where_is nothing c stands older scanned refl n.has sees.0 sees.1 its_contents its_contents
 
     -- the next generation is in doubt
     pub opening_node : (text : List ℕ) → Stands disk_says new.link.journal n.was (opening text) → HasAllRows (with_generation n.was text) (rows_made next) → IsNode disk_says new c
     opening_node text stands has =
-        same_node disk_says old new c n where_is (opening text) next stands older scanned refl has sees.0 sees.1 (contents_of_same disk_says new.archive (rows_made c) (rows_made c) (rows_made next) revisions its_contents)
+        same_node disk_says old new c n where_is (opening text) next stands older scanned refl has sees.0 sees.1 its_contents next_contents
 
   -- it begins
   pub passed_node : (text : List ℕ) → HasPassed old new → Stands disk_says new.link.journal (with_generation n.was text) nothing
@@ -122,7 +111,8 @@ module _ {D : Type 0} (disk_says : DiskSays D) (old new : Node D) (c : Chronicle
         ∙ ap (λ (rows : AllRows). changed_in rows (beginning (1 + length c.closed))) n.rows
         ∙ sym (rows_begun c);
     tells = sees;
-    contents = both_of_same disk_says new.archive (rows_made c) (rows_made next) revisions its_contents;
+    contents = next_contents;
+    pending_contents = next_contents;
     before = (let more = passed.before in let before = n.before in let at = n.at in let all = bytes_closed c in omega (arith, more, before, at, all));
     at = passed.at;
     number = passed.number;
@@ -134,31 +124,19 @@ module _ {D : Type 0} (disk_says : DiskSays D) (old new : Node D) (c : Chronicle
 nothing_there : (text : List ℕ) → Has text (record { at = 0; length = 0 }) []
 nothing_there text = record { within = omega arith; is = refl }
 
-module _ {D : Type 0} (disk_says : DiskSays D) (old new : Node D) (c : Chronicle) (up : Upstream) (b : IsBehind disk_says old c up) (settled : IsSettled disk_says old) (same : new.archive ≡ old.archive) where
+module _ {D : Type 0} (disk_says : DiskSays D) (old new : Node D) (c : Chronicle) (up : Upstream) (b : IsBehind disk_says old c up) (same : new.archive ≡ old.archive) where
   abbrev n : IsNode disk_says old c
   n = b.is_node
 
-  pending_is : n.pending ≡ c
-  pending_is = none_pending c n.pending n.doubt (no_doubt disk_says old.link.journal settled.0 n.was n.doubt settled.1 n.stands) n.is_pending
-
   -- the bytes that it has
-  its_front : HasFrontTo (disk_says.may_leave (archive_disk_of new.archive)) (reach_of new.archive (rows_made c)) up.bytes
-  its_front =
-      subst (λ (archive : Archive D). HasFrontTo (disk_says.may_leave (archive_disk_of archive)) (reach_of archive (rows_made c)) up.bytes) (sym same)
-      (subst (λ (pending : Chronicle). HasFrontTo (disk_says.may_leave (archive_disk_of old.archive)) (reach_of old.archive (rows_made pending)) up.bytes) pending_is b.front)
+  its_front : HasFrontTo (disk_says.may_leave (archive_disk_of new.archive)) (used_of new.archive) up.bytes
+  its_front = subst (λ (archive : Archive D). HasFrontTo (disk_says.may_leave (archive_disk_of archive)) (used_of archive) up.bytes) (sym same) b.front
 
-  next_front : HasFrontTo (disk_says.may_leave (archive_disk_of new.archive)) (reach_of new.archive (rows_made (with_beginning c))) up.bytes
-  next_front =
-      subst (λ (l : List Record). HasFrontTo (disk_says.may_leave (archive_disk_of new.archive)) (max (used_of new.archive) (spots_end l)) up.bytes)
-      (sym (ap (λ (rows : AllRows). rows Rev) (rows_begun c))) its_front
-
-  -- each pair of images has some of the changes upstream, with the beginning or without it
+  -- each image of its journal has some of the changes upstream, with the beginning or without it
   pub passed_moment : (text : List ℕ) → IsEarlier (texts_of (with_beginning c)) up.texts → HasAllRows (with_generation n.was text) (rows_made (with_beginning c))
-      → (journal : Files) → HasEither n.was (with_generation n.was text) journal → (archive : Files) → disk_says.may_leave (archive_disk_of old.archive) archive → HaveSomeOf c up journal archive
-  passed_moment text next has =
-      let ends = n.contents.ends in
-      let revisions = ap (λ (rows : AllRows). spots_end (rows Rev)) (rows_begun c) in
-      some_behind disk_says old c up b (opening text) (with_beginning c) refl has next (omega (arith, ends, revisions))
+      → (journal : Files) → HasEither n.was (with_generation n.was text) journal → HasSomeOf c up.texts (used_of new.archive) journal
+  passed_moment text next has journal =
+      some_doubted disk_says old c n up.texts (used_of new.archive) (its_contents disk_says old new c n same).ends journal (opening text) (with_beginning c) refl has next (next_contents disk_says old new c n same).ends
 
   module _ (older : (before : List (List (List ℕ))) → KeepsOlder disk_says old.link.journal before → KeepsOlder disk_says new.link.journal before) (scanned : KeepsScanned disk_says old.link new.link) (where_is : IsWhereItWas old new) (rest : new.rest ≡ old.rest) where
     its_rest : Has (text_of up.texts (length c.closed)) (record { at = new.at; length = length new.rest }) new.rest
@@ -173,7 +151,7 @@ module _ {D : Type 0} (disk_says : DiskSays D) (old new : Node D) (c : Chronicle
     pub unpassed_behind : Stands disk_says new.link.journal n.was nothing → IsBehind disk_says new c up
     unfolding unpassed_node same_node
     unpassed_behind stands = record {
-      is_node = unpassed_node disk_says old new c n settled same older scanned where_is stands;
+      is_node = unpassed_node disk_says old new c n same older scanned where_is stands;
       earlier = all_earlier disk_says old c up b;
       rest = its_rest;
       no_group = its_none;
@@ -185,11 +163,11 @@ module _ {D : Type 0} (disk_says : DiskSays D) (old new : Node D) (c : Chronicle
         → Stands disk_says new.link.journal n.was (opening text) → IsBehind disk_says new c up
     unfolding opening_node same_node
     opening_behind text next has stands = record {
-      is_node = opening_node disk_says old new c n settled same older scanned where_is text stands has;
+      is_node = opening_node disk_says old new c n same older scanned where_is text stands has;
       earlier = next;
       rest = its_rest;
       no_group = its_none;
-      front = next_front;
+      front = its_front;
     }
 
   -- it begins
@@ -197,13 +175,13 @@ module _ {D : Type 0} (disk_says : DiskSays D) (old new : Node D) (c : Chronicle
       → Stands disk_says new.link.journal (with_generation n.was text) nothing → KeepsOlder disk_says new.link.journal (map (group_texts 1) c.closed ++ n.was.groups ∷ []) → KeepsScanned disk_says old.link new.link → IsBehind disk_says new (with_beginning c) up
   unfolding passed_node
   passed_behind text next has passed stands closes scanned = record {
-    is_node = passed_node disk_says old new c n settled same text passed stands closes scanned has;
+    is_node = passed_node disk_says old new c n same text passed stands closes scanned has;
     earlier = next;
     rest =
         subst (λ (at : ℕ). Has (text_of up.texts (length (generations_of c))) (record { at = at; length = length new.rest }) new.rest) (sym passed.at)
         (subst (λ (l : List ℕ). Has (text_of up.texts (length (generations_of c))) (record { at = 0; length = length l }) l) (sym passed.rest) (nothing_there (text_of up.texts (length (generations_of c)))));
     no_group = subst (HasNoGroup new.number) (sym passed.rest) (empty_no_group new.number);
-    front = next_front;
+    front = its_front;
   }
 
 -- ---- the checkpoint

@@ -12,7 +12,6 @@ pub mod Grouping
 pub mod Growing
 pub mod Kept
 pub mod Looked
-pub mod Moments
 pub mod Named
 pub mod Nodes
 pub mod Opened

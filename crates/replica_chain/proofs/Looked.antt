@@ -1,5 +1,5 @@
 -- Nodes whose journals were only looked at, and whose archives were only read.
-use Rattle.std.proofs.Common.{◌≡◌, ℕ, arith, sym, subst}
+use Rattle.std.proofs.Common.{◌≡◌, ℕ, List, arith, sym, subst}
 use Rattle.std.specs.Prelude.{map}
 use Rattle.outside_api.specs.Says.{DiskSays}
 use Rattle.archive_file.specs.Archive.{disk_of as archive_disk_of, used_of}
@@ -11,7 +11,7 @@ use Rattle.recovery.specs.Looking.{OnlyReads}
 use Rattle.replica_chain.specs.Chronicle.{Chronicle, rows_made}
 use Rattle.replica_chain.specs.Ends.{IsLinkLooked, IsLooked}
 use Rattle.replica_chain.specs.Masters.{IsBehind, Upstream}
-use Rattle.replica_chain.specs.Node.{CanFollow, HasContentsOf, HasFrontTo, IsNode, reach_of}
+use Rattle.replica_chain.specs.Node.{CanFollow, HasContentsOf, HasFrontTo, IsNode}
 use Rattle.replica_chain.specs.declared.link.NodeLink.{NodeLink}
 use Rattle.replica_chain.specs.declared.node.Node.{Node}
 
@@ -39,6 +39,7 @@ module _ {D : Type 0} (disk_says : DiskSays D) (old : Node D) where
       rows = n.rows;
       tells = n.tells;
       contents = n.contents;
+      pending_contents = n.pending_contents;
       before = n.before;
       at = n.at;
       number = n.number;
@@ -66,17 +67,16 @@ module _ {D : Type 0} (disk_says : DiskSays D) (old : Node D) where
   -- ---- the archive
 
   module _ (archive : Archive D) (reads : OnlyReads disk_says (archive_disk_of old.archive) (archive_disk_of archive)) (used : used_of archive ≡ used_of old.archive) where
-    read_contents : (rows pending : AllRows) → HasContentsOf disk_says old.archive rows pending → HasContentsOf disk_says archive rows pending
-    read_contents rows pending contents = record {
+    read_front : (bytes : List ℕ) → HasFrontTo (disk_says.may_leave (archive_disk_of old.archive)) (used_of old.archive) bytes → HasFrontTo (disk_says.may_leave (archive_disk_of archive)) (used_of archive) bytes
+    read_front bytes front =
+        subst (λ (place : ℕ). HasFrontTo (disk_says.may_leave (archive_disk_of archive)) place bytes) (sym used) (record { within = front.within; has = λ image left. front.has image (reads.no_more image left) })
+
+    read_contents : (rows : AllRows) → HasContentsOf disk_says old.archive rows → HasContentsOf disk_says archive rows
+    read_contents rows contents = record {
       bytes = contents.bytes;
-      front = (let front = contents.front in let same : reach_of archive pending ≡ reach_of old.archive pending = omega (arith, used) in
-          subst (λ (place : ℕ). HasFrontTo (disk_says.may_leave (archive_disk_of archive)) place contents.bytes) (sym same) (record {
-            within = front.within;
-            has = λ image left. front.has image (reads.no_more image left);
-          }));
+      front = read_front contents.bytes contents.front;
       ends = (let ends = contents.ends in omega (arith, used, ends));
       whole = contents.whole;
-      pending_whole = contents.pending_whole;
     }
 
     pub read_node : (c : Chronicle) → IsNode disk_says old c → IsNode disk_says (record old { archive = archive }) c
@@ -94,7 +94,8 @@ module _ {D : Type 0} (disk_says : DiskSays D) (old : Node D) where
       pending_has = n.pending_has;
       rows = n.rows;
       tells = (n.tells.0, reads.same.kept n.tells.0 n.tells.1);
-      contents = read_contents (rows_made c) (rows_made n.pending) n.contents;
+      contents = read_contents (rows_made c) n.contents;
+      pending_contents = read_contents (rows_made n.pending) n.pending_contents;
       before = n.before;
       at = n.at;
       number = n.number;
@@ -103,20 +104,7 @@ module _ {D : Type 0} (disk_says : DiskSays D) (old : Node D) where
 
     pub read_behind : (c : Chronicle) (up : Upstream) → IsBehind disk_says old c up → IsBehind disk_says (record old { archive = archive }) c up
     unfolding read_node
-    read_behind c up b =
-        let front = b.front in
-        let pending = rows_made b.is_node.pending in
-        let same : reach_of archive pending ≡ reach_of old.archive pending = omega (arith, used) in
-        record {
-          is_node = read_node c b.is_node;
-          earlier = b.earlier;
-          rest = b.rest;
-          no_group = b.no_group;
-          front = subst (λ (place : ℕ). HasFrontTo (disk_says.may_leave (archive_disk_of archive)) place up.bytes) (sym same) (record {
-            within = front.within;
-            has = λ image left. front.has image (reads.no_more image left);
-          });
-        }
+    read_behind c up b = record { is_node = read_node c b.is_node; earlier = b.earlier; rest = b.rest; no_group = b.no_group; front = read_front up.bytes b.front }
 
     pub read_can : CanFollow disk_says old → CanFollow disk_says (record old { archive = archive })
     read_can can = record {

@@ -34,10 +34,6 @@ no_doubt disk_says journal one other (opening checkpoint) settled stands = absur
     never : Nothing ≡ Generation → ⊥
     never e = cc
 
--- so its changes are all
-pub none_pending : (c pending : Chronicle) (doubt : Doubtful) → doubt ≡ nothing → IsPending c doubt pending → pending ≡ c
-none_pending c pending doubt is of = subst (λ (d : Doubtful). IsPending c d pending) is of
-
 module _ {D : Type 0} (disk_says : DiskSays D) (old new : Node D) (c : Chronicle) (n : IsNode disk_says old c) where
   -- it has the same changes, and perhaps others are in doubt
   unfoldable pub same_node : IsWhereItWas old new → (doubt : Doubtful) (pending : Chronicle) → Stands disk_says new.link.journal n.was doubt
@@ -45,8 +41,8 @@ module _ {D : Type 0} (disk_says : DiskSays D) (old new : Node D) (c : Chronicle
       → KeepsScanned disk_says old.link new.link
       → IsPending c doubt pending → HasAllRows (with_doubt n.was doubt) (rows_made pending)
       → (files : Files) → disk_says.seen (archive_disk_of new.archive) files
-      → HasContentsOf disk_says new.archive (rows_made c) (rows_made pending) → IsNode disk_says new c
-  same_node where_is doubt pending stands keeps scanned is_pending pending_has files sees contents = record {
+      → HasContentsOf disk_says new.archive (rows_made c) → HasContentsOf disk_says new.archive (rows_made pending) → IsNode disk_says new c
+  same_node where_is doubt pending stands keeps scanned is_pending pending_has files sees contents pending_contents = record {
     was = n.was;
     doubt = doubt;
     stands = stands;
@@ -61,6 +57,7 @@ module _ {D : Type 0} (disk_says : DiskSays D) (old new : Node D) (c : Chronicle
     rows = where_is.rows ∙ n.rows;
     tells = (files, sees);
     contents = contents;
+    pending_contents = pending_contents;
     before = where_is.before ∙ n.before;
     at = where_is.at ∙ n.at;
     number = where_is.number ∙ n.number;
@@ -90,9 +87,8 @@ module _ {D : Type 0} (disk_says : DiskSays D) (old new : Node D) (c : Chronicle
         → Stands disk_says new.link.journal (with_group n.was text) nothing → KeepsOlder disk_says new.link.journal (map (group_texts 1) c.closed)
         → KeepsScanned disk_says old.link new.link
         → (files : Files) → disk_says.seen (archive_disk_of new.archive) files
-        → HasContentsOf disk_says new.archive (changed_by (rows_made c) changes) (changed_by (rows_made c) changes) → IsNode disk_says new (with_changes c changes)
+        → HasContentsOf disk_says new.archive (rows_made (with_changes c changes)) → IsNode disk_says new (with_changes c changes)
     grown_node end taken end_is stands keeps scanned files sees contents =
-        let made : AllRows = rows_made (with_changes c changes) in
         record {
           was = with_group n.was text;
           doubt = nothing;
@@ -107,7 +103,8 @@ module _ {D : Type 0} (disk_says : DiskSays D) (old new : Node D) (c : Chronicle
           pending_has = pushed_has;
           rows = taken.rows ∙ ap (λ (rows : AllRows). changed_by rows changes) n.rows ∙ sym (rows_push c changes);
           tells = (files, sees);
-          contents = subst (λ (rows : AllRows). HasContentsOf disk_says new.archive rows rows) (sym (rows_push c changes)) contents;
+          contents = contents;
+          pending_contents = contents;
           before = taken.before ∙ n.before;
           at =
               taken.at ∙ end_is ∙ ap (λ (k : ℕ). old.at + (5 + length (group_text k changes))) n.number

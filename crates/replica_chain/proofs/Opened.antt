@@ -24,7 +24,7 @@ use Rattle.recovery.specs.Opening.{HasSynced, IsOpen}
 use Rattle.recovery.specs.declared.open.Opened.{Opened}
 use Rattle.replica_chain.specs.Chronicle.{Chronicle, changes_of, generations_of, rows_made, texts_of}
 use Rattle.replica_chain.specs.Ends.{HasTexts, IsLooked}
-use Rattle.replica_chain.specs.Node.{AllReach, CanFollow, HasContentsOf, HasFrontTo, IsNode, reach_of}
+use Rattle.replica_chain.specs.Node.{AllReach, CanFollow, HasContentsOf, HasFrontTo, IsNode}
 use Rattle.replica_chain.specs.Opening.{AreWritten, IsFresh}
 use Rattle.replica_chain.specs.declared.counting.Counts.{Counts}
 use Rattle.replica_chain.specs.declared.node.Node.{Node}
@@ -88,17 +88,14 @@ module _ {D : Type 0} (disk_says : DiskSays D) (image : (disk : D) (files : File
           record { within = (let long = ap length same in omega (arith, long, le)); is = ap (take place) same };
     }
 
-    opened_contents : HasContentsOf disk_says opened.archive rows rows
+    opened_contents : HasContentsOf disk_says opened.archive rows
     opened_contents =
         let end = open_now.archive_end in
         let used = open_now.used in
-        record {
-          bytes = contents 0;
-          front = opened_front (reach_of opened.archive rows) (omega (arith, end, used, within));
-          ends = omega (arith, end, used);
-          whole = whole;
-          pending_whole = whole;
-        }
+        record { bytes = contents 0; front = opened_front (used_of opened.archive) (omega (arith, used, within)); ends = omega (arith, end, used); whole = whole }
+
+    its_contents : (archive : Archive D) → archive ≡ opened.archive → HasContentsOf disk_says archive (rows_made c)
+    its_contents archive is = subst (λ (a : Archive D). HasContentsOf disk_says a (rows_made c)) (sym is) (subst (HasContentsOf disk_says opened.archive) made opened_contents)
 
     pub opened_node : (node : Node D) (before_bytes before_groups newest_bytes newest_groups : ℕ) → IsLooked disk_says opened.journal node.link.journal → ((file : List ℕ) → IsMarkOf node.link.scanned file) → node.archive ≡ opened.archive → node.tables ≡ opened.tables
         → node.before ≡ before_bytes → node.at ≡ newest_bytes → node.number ≡ 1 + newest_groups → node.changes ≡ before_groups + newest_groups + generation_of_journal opened.journal
@@ -120,9 +117,8 @@ module _ {D : Type 0} (disk_says : DiskSays D) (image : (disk : D) (files : File
           pending_has = has;
           rows = ap rows_of tables ∙ made;
           tells = (contents, subst (λ (a : Archive D). disk_says.seen (archive_disk_of a) contents) (sym archive) told);
-          contents =
-              subst (λ (a : Archive D). HasContentsOf disk_says a (rows_made c) (rows_made c)) (sym archive)
-              (subst (λ (r : AllRows). HasContentsOf disk_says opened.archive r r) made opened_contents);
+          contents = its_contents node.archive archive;
+          pending_contents = its_contents node.archive archive;
           before =
               (let closed = bytes_closed c in omega (arith, closed, before, bytes, newest));
           at = at ∙ newest;
@@ -175,7 +171,7 @@ module _ {D : Type 0} (disk_says : DiskSays D) (opened : Opened D) (was : Commit
           was = was;
           doubt = nothing;
           stands = its_looked.stands was nothing open_now.stands;
-          archive_end = ap (λ (tables : Tables). tables.archive_end) of.tables_are ∙ sym open_now.used ∙ ap used_of (sym of.archive_is);
+          archive_end = (let fits = opened.tables.end_fits in let used = open_now.used in let same = ap used_of of.archive_is in omega (arith, fits, used, same));
           room = subst (λ (a : Archive D). AllReach (disk_says.may_leave (archive_disk_of a)) (used_of a)) (sym of.archive_is) reaches;
           short = (let short = counts.short in omega (arith, short, before, at, ap length of.rest));
           numbered = (let number = of.number in omega (arith, number, newest_few, at));

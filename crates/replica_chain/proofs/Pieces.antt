@@ -1,8 +1,8 @@
 -- What stands upstream of the groups that a node takes, one after another.
-use Rattle.std.proofs.Common.{◌≡◌, ℕ, ◌+◌, ◌-◌, List, ◌++◌, length, Some, sym, ap, subst, ◌∙◌, arith, append_assoc, length-append}
+use Rattle.std.proofs.Common.{◌≡◌, ℕ, ◌+◌, ◌-◌, ◌≤◌, List, ◌++◌, length, Some, sym, ap, subst, ◌∙◌, arith, append_assoc, length-append}
 use Rattle.outside_api.specs.Link.{text_of}
 use Rattle.outside_api.specs.Says.{DiskSays}
-use Rattle.archive_file.specs.Archive.{Has}
+use Rattle.archive_file.specs.Archive.{Has, used_of}
 use Rattle.depot_rows.specs.db_records.declared.change.Change.{Change}
 use Rattle.disk_journal.specs.Stands.{generation_of_journal}
 use Rattle.journal_groups.specs.Groups.{group_text, groups_text, mark, open_byte}
@@ -51,28 +51,28 @@ module _ {D : Type 0} (disk_says : DiskSays D) where
       (same : generation_of_journal mid.link.journal ≡ generation_of_journal old.link.journal) where
     -- what stands there stands in the same text still
     pub stands_still : (spot_at spot_length : ℕ) (bytes : List ℕ) → Has (text_of up.texts (length c.closed)) (record { at = spot_at; length = spot_length }) bytes
-        → Has (text_of first.later.texts (length first.now.closed)) (record { at = spot_at; length = spot_length }) bytes
+        → Has (text_of first.later.texts (length first.stays.now.closed)) (record { at = spot_at; length = spot_length }) bytes
     stands_still spot_at spot_length bytes has =
-        subst (λ (g : ℕ). Has (text_of first.later.texts g) (record { at = spot_at; length = spot_length }) bytes) (sym (same_closed old mid c first.now n first.behind.is_node same))
+        subst (λ (g : ℕ). Has (text_of first.later.texts g) (record { at = spot_at; length = spot_length }) bytes) (sym (same_closed old mid c first.stays.now n first.stays.behind.is_node same))
         (subst (λ (texts : List (List ℕ)). Has (text_of texts (length c.closed)) (record { at = spot_at; length = spot_length }) bytes) (sym first.texts_told) has)
 
     -- a step more behind the same texts
-    pub step_on : GoesOnBehind disk_says mid new first.now first.later (λ texts. texts ≡ first.later.texts) E → GoesOnBehind disk_says old new c up (λ texts. texts ≡ up.texts) E
-    step_on second = behind_on disk_says old mid new c up (λ texts. texts ≡ up.texts) (λ texts. texts ≡ first.later.texts) (λ texts. texts ≡ up.texts) B E first second (λ texts told is. is ∙ told)
+    step_on : used_of mid.archive ≤ used_of new.archive → GoesOnBehind disk_says mid new first.stays.now first.later (λ texts. texts ≡ first.later.texts) E → GoesOnBehind disk_says old new c up (λ texts. texts ≡ up.texts) E
+    step_on used second = behind_on disk_says old mid new c up (λ texts. texts ≡ up.texts) (λ texts. texts ≡ first.later.texts) (λ texts. texts ≡ up.texts) B E used first second (λ texts told is. is ∙ told)
 
     -- a group more
-    pub group_on : (left behind : State) (changes : List Change) (end : ℕ) → HasTaken left behind (Some changes) → left.at ≡ mid.at → left.number ≡ mid.number → end ≡ behind.at → StandsLeft (text_of up.texts (length c.closed)) left
+    pub group_on : used_of mid.archive ≤ used_of new.archive → (left behind : State) (changes : List Change) (end : ℕ) → HasTaken left behind (Some changes) → left.at ≡ mid.at → left.number ≡ mid.number → end ≡ behind.at → StandsLeft (text_of up.texts (length c.closed)) left
         → ((now : Chronicle) (later : Upstream) → B later.bytes → IsBehind disk_says mid now later
         → Has (text_of later.texts (length now.closed)) (record { at = mid.at; length = end - mid.at }) (mark open_byte ++ group_text mid.number changes)
         → GoesOnBehind disk_says mid new now later (λ texts. texts ≡ later.texts) E)
         → GoesOnBehind disk_says old new c up (λ texts. texts ≡ up.texts) E
-    group_on left behind changes end taken at number end_is has leads =
+    group_on used left behind changes end taken at number end_is has leads =
         let text = text_of up.texts (length c.closed) in
         let size : end - mid.at ≡ 5 + length (group_text left.number changes) = omega (arith, at, end_is, behind_group left behind changes taken) in
         let there : Has text (record { at = mid.at; length = end - mid.at }) (mark open_byte ++ group_text mid.number changes) =
         subst (λ (k : ℕ). Has text (record { at = mid.at; length = end - mid.at }) (mark open_byte ++ group_text k changes)) number
         (subst (λ (k : ℕ). Has text (record { at = k; length = end - mid.at }) (mark open_byte ++ group_text left.number changes)) at (front_stands text left behind changes (end - mid.at) taken has size)) in
-        step_on (leads first.now first.later first.bytes_told first.behind (stands_still mid.at (end - mid.at) (mark open_byte ++ group_text mid.number changes) there))
+        step_on used (leads first.stays.now first.later first.bytes_told first.stays.behind (stands_still mid.at (end - mid.at) (mark open_byte ++ group_text mid.number changes) there))
 
 -- what is left behind groups that were taken stands there
 pub left_stands : {D : Type 0} (old new : Node D) (feed left : State) (groups : List (List Change)) (text : List ℕ) → HasTakenGroups old new feed groups left → StandsLeft text feed → StandsLeft text left

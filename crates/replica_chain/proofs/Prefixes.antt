@@ -6,6 +6,7 @@ use Rattle.std.proofs.Math.Seq.{take-append_seam}
 use Rattle.std.proofs.lemmas.List.{append-nil, take-append-drop, length-map}
 use Rattle.outside_api.specs.Disk.{Files}
 use Rattle.outside_api.specs.Link.{IsEarlier, text_of}
+use Rattle.outside_api.specs.Moments.{LeavesOnly, weaker}
 use Rattle.outside_api.specs.Says.{DiskSays}
 use Rattle.archive_file.specs.Archive.{Has, disk_of as archive_disk_of, used_of}
 use Rattle.archive_file.specs.Contents.{IsTold}
@@ -20,7 +21,7 @@ use Rattle.depot_rows.specs.depot_model.Rules.{value_of}
 use Rattle.depot_rows.specs.Standing.{Stand}
 use Rattle.depot_rows.specs.table_changes.Changed.{AllRows, changed_by, no_rows}
 use Rattle.disk_journal.specs.Images.{Committed, HasCommitted}
-use Rattle.disk_journal.specs.Stands.{Doubtful, nothing, group, opening}
+use Rattle.disk_journal.specs.Stands.{Doubtful, nothing, group, opening, disk_of}
 use Rattle.journal_groups.specs.Groups.{IsGroup, groups_text}
 use Rattle.recovery.specs.Holding.{HasAllRows, joined, spots_end}
 use Rattle.recovery.specs.Rules.{DeletesAreUnplaced}
@@ -30,18 +31,15 @@ use Rattle.replica_pull.specs.Replica.{beginning}
 use Rattle.replica_pull.proofs.Firsts.{begins}
 use Rattle.replica_chain.specs.Chronicle.{Chronicle, changes_of, generations_of, rows_made, texts_of}
 use Rattle.replica_chain.specs.Ends.{HasTexts}
-use Rattle.replica_chain.specs.Masters.{HaveSomeOf, IsBehind, IsDepotThen, IsMaster, OpensToAPrefix, StandsAfter, Upstream}
-use Rattle.replica_chain.specs.Moments.{LeavePairs}
-use Rattle.replica_chain.specs.Node.{HasFrontTo, IsPending, reach_of}
+use Rattle.replica_chain.specs.Masters.{HasSomeOf, IsBehind, IsDepotThen, IsMaster, OpensToAPrefix, StandsAfter, StaysBehind, Upstream}
+use Rattle.replica_chain.specs.Node.{HasFrontTo, IsPending}
 use Rattle.replica_chain.specs.declared.node.Node.{Node}
-use Rattle.replica_chain.specs.declared.node.Pair.{Pair}
-use Rattle.replica_chain.proofs.Chains.{at_spot, earlier_on, front_on, shorter}
+use Rattle.replica_chain.proofs.Chains.{at_spot, earlier_on, front_on}
 use Rattle.replica_chain.proofs.Following.{front_of, has_later}
 use Rattle.recovery.proofs.GoodSpots.{row_end}
 use Rattle.recovery.proofs.OneGroup.{all-push}
 use Rattle.replica_chain.proofs.Growing.{changes_begun, changes_push, earlier_self, groups_push}
-use Rattle.replica_chain.proofs.Moments.{weaker_pairs}
-use Rattle.replica_chain.proofs.Steps.{all_earlier, some_pending}
+use Rattle.replica_chain.proofs.Steps.{all_earlier, some_now}
 use Rattle.replica_chain.proofs.Told.{told_texts}
 
 -- ---- changes at the front of others
@@ -156,10 +154,11 @@ module _ (theirs : Chronicle) (bytes : List ℕ) (after : ℕ → List Deed) (ma
         let n = length (changes_of c) in
         files_stand (generations_of theirs) bytes n (after n) (master.each n few) c rows_are (master.generation c earlier)
 
-  -- a pair of images that has some of its changes stands for the depot after so many, no more than those of a chronicle that has all of these
-  pairs_stand : (mine last : Chronicle) → AllByRecursion (AllByRecursion IsGroup) (generations_of mine) → AllByRecursion (AllByRecursion IsGroup) (generations_of last) → IsEarlier (texts_of last) (texts_of theirs) → (journal archive : Files)
-      → HaveSomeOf mine (record { texts = texts_of last; bytes = bytes }) journal archive → StandsAfter after (length (changes_of mine)) (min (length (changes_of last)) (length (changes_of theirs))) journal archive
-  pairs_stand mine last are last_are earlier journal archive some =
+  -- an image of a journal that has some of its changes stands, with one of an archive that has its bytes as far as their spots, for the depot after so many, no more
+  -- than those of a chronicle that has all of these
+  images_stand : (mine last : Chronicle) → AllByRecursion (AllByRecursion IsGroup) (generations_of mine) → AllByRecursion (AllByRecursion IsGroup) (generations_of last) → IsEarlier (texts_of last) (texts_of theirs) → (images : Files → Type 0) (place : ℕ)
+      → HasFrontTo images place bytes → (journal archive : Files) → HasSomeOf mine (texts_of last) place journal → images archive → StandsAfter after (length (changes_of mine)) (min (length (changes_of last)) (length (changes_of theirs))) journal archive
+  images_stand mine last are last_are earlier images place front journal archive some there =
       let has = some.has in
       let c = some.then in
       let upstream = earlier_on (texts_of c) (texts_of last) (texts_of theirs) some.earlier earlier in
@@ -169,28 +168,29 @@ module _ (theirs : Chronicle) (bytes : List ℕ) (after : ℕ → List Deed) (ma
         changes = length (changes_of c);
         no_fewer = omega (arith, ap length fewer.1, length-append (changes_of mine) fewer.0);
         no_more = omega (arith, ap length more.1, length-append (changes_of c) more.0, few c has.are_groups upstream);
-        stands = stands_then c has.are_groups upstream has.was journal archive (spots_end (rows_made c Rev)) has.committed has.rows has.generation some.front some.within (omega arith);
+        stands = stands_then c has.are_groups upstream has.was journal archive place has.committed has.rows has.generation (front.has archive there) front.within some.ends;
       }
 
-  -- so it does at every moment
-  pub pairs_open : {D : Type 0} (disk_says : DiskSays D) (mine : Chronicle) → AllByRecursion (AllByRecursion IsGroup) (generations_of mine) → (old new : Pair D)
-      → LeavePairs disk_says (HaveSomeOf mine (record { texts = texts_of theirs; bytes = bytes })) old new → LeavePairs disk_says (StandsAfter after (length (changes_of mine)) (length (changes_of theirs))) old new
-  pairs_open disk_says mine are old new pairs =
-      weaker_pairs disk_says (HaveSomeOf mine (record { texts = texts_of theirs; bytes = bytes })) (StandsAfter after (length (changes_of mine)) (length (changes_of theirs)))
-      (λ journal archive some.
-      let s = pairs_stand mine theirs are master.are_groups (earlier_self theirs) journal archive some in
-      let no_more = s.no_more in
-      record { changes = s.changes; no_fewer = s.no_fewer; no_more = omega (arith, no_more); stands = s.stands }) old new pairs
+  module _ {D : Type 0} (disk_says : DiskSays D) (new : Node D) (mine : Chronicle) where
+    -- each pair of images of a node behind it does
+    pub opens : IsBehind disk_says new mine (record { texts = texts_of theirs; bytes = bytes }) → OpensToAPrefix disk_says new after (length (changes_of theirs)) (length (changes_of mine))
+    opens b journal archive left there =
+        let m = b.is_node in
+        let some = some_now disk_says new mine m (texts_of m.pending) (earlier_self m.pending) journal left in
+        let s = images_stand mine m.pending m.are_groups (pending_groups mine m.doubt m.pending m.is_pending m.are_groups) b.earlier (disk_says.may_leave (archive_disk_of new.archive)) (used_of new.archive) b.front journal archive some there in
+        let no_more = s.no_more in
+        record { changes = s.changes; no_fewer = s.no_fewer; no_more = omega (arith, no_more, one_more mine m.doubt m.pending m.is_pending); stands = s.stands }
 
-  -- each pair of images of a node behind it stands for such a depot
-  pub opens : {D : Type 0} (disk_says : DiskSays D) (node : Node D) (mine : Chronicle) → IsBehind disk_says node mine (record { texts = texts_of theirs; bytes = bytes })
-      → OpensToAPrefix disk_says node after (length (changes_of theirs)) (length (changes_of mine))
-  opens disk_says node mine b journal archive left there =
-      let m = b.is_node in
-      let some = some_pending disk_says node mine (record { texts = texts_of theirs; bytes = bytes }) b journal archive left there in
-      let s = pairs_stand mine m.pending m.are_groups (pending_groups mine m.doubt m.pending m.is_pending m.are_groups) b.earlier journal archive some in
-      let no_more = s.no_more in
-      record { changes = s.changes; no_fewer = s.no_fewer; no_more = omega (arith, no_more, one_more mine m.doubt m.pending m.is_pending); stands = s.stands }
+    -- and so does each image that its journal left since
+    pub opened_since : (old : Node D) → AllByRecursion (AllByRecursion IsGroup) (generations_of mine) → StaysBehind disk_says old new mine (record { texts = texts_of theirs; bytes = bytes })
+        → LeavesOnly disk_says (disk_of old.link.journal) (disk_of new.link.journal) (λ journal. (archive : Files) → disk_says.may_leave (archive_disk_of new.archive) archive
+        → StandsAfter after (length (changes_of mine)) (length (changes_of theirs)) journal archive)
+    opened_since old are s =
+        weaker disk_says (disk_of old.link.journal) (disk_of new.link.journal) (HasSomeOf mine (texts_of theirs) (used_of new.archive)) _
+        (λ journal some archive there.
+        let stands = images_stand mine theirs are master.are_groups (earlier_self theirs) (disk_says.may_leave (archive_disk_of new.archive)) (used_of new.archive) s.behind.front journal archive some there in
+        let no_more = stands.no_more in
+        record { changes = stands.changes; no_fewer = stands.no_fewer; no_more = omega (arith, no_more); stands = stands.stands }) s.any_moment
 
 -- ---- nodes behind nodes
 
@@ -204,17 +204,16 @@ module _ {D : Type 0} (disk_says : DiskSays D) (image : (disk : D) (files : File
       let u = second.is_node in
       let disk = archive_disk_of up.archive in
       let used = used_of up.archive in
-      let place = reach_of node.archive (rows_made m.pending) in
+      let place = used_of node.archive in
       let same : told.texts ≡ texts_of theirs = told_texts disk_says image short up theirs u told.texts texts in
       let later : IsEarlier told.texts master.texts = subst (λ (l : List (List ℕ)). IsEarlier l master.texts) (sym same) (all_earlier disk_says up theirs master second) in
-      let least = shorter (disk_says.may_leave disk) (reach_of up.archive (rows_made u.pending)) used master.bytes (omega arith) second.front in
-      let same_bytes : take used (bytes.files 0) ≡ take used master.bytes = (least.has bytes.files (image disk bytes.files bytes.sees)).is in
+      let same_bytes : take used (bytes.files 0) ≡ take used master.bytes = (second.front.has bytes.files (image disk bytes.files bytes.sees)).is in
       record {
         is_node = m;
         earlier = earlier_on (texts_of m.pending) told.texts master.texts first.earlier later;
         rest = has_later told.texts master.texts (length mine.closed) node.rest node.at (length node.rest) later first.rest;
         no_group = first.no_group;
         front =
-            front_on (disk_says.may_leave (archive_disk_of node.archive)) (bytes.files 0) master.bytes place used same_bytes least.within
+            front_on (disk_says.may_leave (archive_disk_of node.archive)) (bytes.files 0) master.bytes place used same_bytes second.front.within
             (subst (HasFrontTo (disk_says.may_leave (archive_disk_of node.archive)) place) bytes.are first.front);
       }

@@ -1,5 +1,5 @@
 -- Nodes that others followed: they tell what they told.
-use Rattle.std.proofs.Common.{◌≡◌, inl, inr, ℕ, ◌^◌, ◌<◌, List, length, take, refl, sym, ap, subst, ◌∙◌, arith}
+use Rattle.std.proofs.Common.{◌≡◌, inl, ℕ, ◌^◌, ◌<◌, List, length, take, refl, sym, ap, subst, ◌∙◌, arith}
 use Rattle.outside_api.specs.Disk.{Files}
 use Rattle.outside_api.specs.Moments.{started, then, weaker}
 use Rattle.outside_api.specs.Reaching.{Reaches, holds, once, stays, then as reach}
@@ -13,17 +13,14 @@ use Rattle.recovery.specs.Texts.{HasTexts}
 use Rattle.replica_chain.specs.Chronicle.{Chronicle, texts_of}
 use Rattle.replica_chain.specs.Copying.{KeepsContents}
 use Rattle.replica_chain.specs.Ends.{IsLinkLooked, TellsTexts}
-use Rattle.replica_chain.specs.Masters.{GoesOnBehind, GoesOnBehindNode, HaveSomeOf, IsBehind, StaysBehind, TellsGroups, Upstream, WasFollowed}
-use Rattle.replica_chain.specs.Moments.{LeavePairs}
-use Rattle.replica_chain.specs.Node.{IsNode, files_of}
+use Rattle.replica_chain.specs.Masters.{GoesOnBehind, GoesOnBehindNode, IsBehind, StaysBehind, TellsGroups, Upstream, WasFollowed}
+use Rattle.replica_chain.specs.Node.{IsNode}
 use Rattle.replica_chain.specs.declared.link.NodeLink.{NodeLink}
 use Rattle.replica_chain.specs.declared.node.Node.{Node}
 use Rattle.replica_chain.proofs.Looked.{looked_behind, looked_node, read_behind, read_node}
-use Rattle.replica_chain.proofs.Chains.{earlier_on}
 use Rattle.replica_chain.proofs.Growing.{earlier_self}
 use Rattle.replica_chain.proofs.Kept.{keeps_first, keeps_on, keeps_read}
-use Rattle.replica_chain.proofs.Moments.{weaker_pairs}
-use Rattle.replica_chain.proofs.Steps.{some_more, some_now}
+use Rattle.replica_chain.proofs.Steps.{some_now, some_on, stays_first, stays_on}
 use Rattle.replica_chain.proofs.Told.{looked_on, node_tells, not_looked, told_texts}
 
 module _ {D : Type 0} (disk_says : DiskSays D) (only_now : (disk : D) (image : Files) → disk_says.left_since disk (disk_says.moment disk) image → disk_says.may_leave disk image) where
@@ -113,17 +110,8 @@ module _ {D : Type 0} (disk_says : DiskSays D) (only_now : (disk : D) (image : F
     others = second.others ∙ ap (λ (node : Node D). record node { link = new.link; archive = new.archive }) first.others;
   }
 
-  -- it stays as it is
-  stays_first : (node : Node D) (c : Chronicle) (up : Upstream) → IsBehind disk_says node c up → StaysBehind disk_says node node c up
-  stays_first node c up b = record {
-    now = c;
-    no_fewer = earlier_self c;
-    behind = b;
-    any_moment = stays;
-  }
-
   pub goes_first : (up node : Node D) → GoesOnBehindNode disk_says up up node node
-  goes_first up node = record { followed = followed_first up; keeps = keeps_first disk_says only_now node.archive; behind = λ mine theirs bytes n told b. stays_first node mine (record { texts = texts_of theirs; bytes = bytes }) b }
+  goes_first up node = record { followed = followed_first up; keeps = keeps_first disk_says only_now node.archive; behind = λ mine theirs bytes n told b. stays_first disk_says only_now node mine (record { texts = texts_of theirs; bytes = bytes }) b }
 
   pub goes_then : (up up_mid up_new old mid new : Node D) → GoesOnBehindNode disk_says up up_mid old mid → GoesOnBehindNode disk_says up_mid up_new mid new → GoesOnBehindNode disk_says up up_new old new
   goes_then up up_mid up_new old mid new first second = record {
@@ -133,12 +121,7 @@ module _ {D : Type 0} (disk_says : DiskSays D) (only_now : (disk : D) (image : F
         let one = first.behind mine theirs bytes n told b in
         let two = second.behind one.now theirs bytes (followed_node up up_mid first.followed theirs n) (followed_told up up_mid first.followed bytes told) one.behind in
         let told_of : Upstream = record { texts = texts_of theirs; bytes = bytes } in
-        record {
-          now = two.now;
-          no_fewer = earlier_on (texts_of mine) (texts_of one.now) (texts_of two.now) one.no_fewer two.no_fewer;
-          behind = two.behind;
-          any_moment = reach one.any_moment (weaker_pairs disk_says (HaveSomeOf one.now told_of) (HaveSomeOf mine told_of) (some_more mine one.now told_of one.no_fewer) (files_of mid) (files_of new) two.any_moment);
-        };
+        stays_on disk_says old mid new mine told_of told_of (inl refl) second.keeps.used one two;
   }
 
   -- both journals were looked at
@@ -153,10 +136,8 @@ module _ {D : Type 0} (disk_says : DiskSays D) (only_now : (disk : D) (image : F
           now = c;
           no_fewer = earlier_self c;
           behind = looked_behind disk_says node mine looked c told_of b;
-          any_moment = once (inl (
-            refl,
-            weaker disk_says (disk_of node.link.journal) (disk_of mine.journal) (disk_says.may_leave (disk_of node.link.journal)) _ (some_now disk_says node c told_of b) looked.journal.reads.any_moment,
-          ));
+          any_moment =
+              weaker disk_says (disk_of node.link.journal) (disk_of mine.journal) (disk_says.may_leave (disk_of node.link.journal)) _ (some_now disk_says node c b.is_node told_of.texts b.earlier) looked.journal.reads.any_moment;
         };
   }
 
@@ -172,11 +153,10 @@ module _ {D : Type 0} (disk_says : DiskSays D) (only_now : (disk : D) (image : F
           now = c;
           no_fewer = earlier_self c;
           behind = read_behind disk_says node archive reads used c told_of b;
-          any_moment = once (inr (
-            refl,
-            weaker disk_says (archive_disk_of node.archive) (archive_disk_of archive) (disk_says.may_leave (archive_disk_of node.archive)) _
-                (λ image there journal left. some_now disk_says node c told_of b journal left image there) reads.any_moment,
-          ));
+          any_moment =
+              started disk_says (disk_of node.link.journal) _
+              (λ image left. some_on c c told_of.texts told_of.texts (used_of node.archive) (used_of archive) (earlier_self c) (inl refl) (omega (arith, used)) image
+              (some_now disk_says node c b.is_node told_of.texts b.earlier image (only_now (disk_of node.link.journal) image left)));
         };
   }
 
@@ -205,9 +185,4 @@ module _ {D : Type 0} (disk_says : DiskSays D) (only_now : (disk : D) (image : F
             let texts_are : later.texts ≡ texts_of theirs = followed_texts up up_new followed image short theirs n later.texts goes.texts_told.has in
             let bytes_are : later.bytes ≡ bytes = followed_bytes up up_new followed one bytes later.bytes told goes.bytes_told in
             let same : later ≡ record { texts = texts_of theirs; bytes = bytes } = λ i. record { texts = texts_are i; bytes = bytes_are i } in
-            record {
-              now = goes.now;
-              no_fewer = goes.no_fewer;
-              behind = subst (IsBehind disk_says new goes.now) same goes.behind;
-              any_moment = subst (λ (told : Upstream). LeavePairs disk_says (HaveSomeOf mine told) (files_of old) (files_of new)) same goes.any_moment;
-            }
+            subst (StaysBehind disk_says old new mine) same goes.stays

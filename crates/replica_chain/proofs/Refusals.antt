@@ -33,18 +33,17 @@ module _ {D : Type 0} (disk_says : DiskSays D) (told : List ℕ → Type 0) wher
   misfit_refused Y old new changes end Memory of bad = tt
 
   -- its contents aren't there
-  pub contents_refused : (old new : Node D) (changes : List Change) (end : ℕ) (fault : NodeFault) → AllFitIn (rows_of old.tables) changes → used_of new.archive ≡ used_of old.archive → IsOfBringing fault
-      → AtNoBytes (λ place. (bytes : List ℕ) → told bytes → IsAbsent bytes (used_of old.archive) (named_ends changes) place) fault
+  pub contents_refused : (old new : Node D) (changes : List Change) (end : ℕ) (fault : NodeFault) → AllFitIn (rows_of old.tables) changes → IsOfBringing fault
+      → AtNoBytes (λ place. (bytes : List ℕ) → told bytes → IsAbsent bytes (used_of new.archive) (named_ends changes) place) fault
       → AtBadContent (λ place. (files : Files) → disk_says.seen (archive_disk_of new.archive) files → IsBadContent (files 0) changes place) fault → IsRefused disk_says told old new changes end fault
-  contents_refused old new changes end LinkFault fit used of absent bad = absurd of
-  contents_refused old new changes end ContentsFailed fit used of absent bad = tt
-  contents_refused old new changes end DiskFault fit used of absent bad = tt
-  contents_refused old new changes end (BadFeed place) fit used of absent bad = absurd of
-  contents_refused old new changes end (BadContent place) fit used of absent bad = (fit, bad)
-  contents_refused old new changes end (NoBytes place) fit used of absent bad =
-      (fit, λ bytes tells. subst (λ (from : ℕ). IsAbsent bytes from (named_ends changes) place) (sym used) (absent bytes tells))
-  contents_refused old new changes end NoGeneration fit used of absent bad = absurd of
-  contents_refused old new changes end Memory fit used of absent bad = tt
+  contents_refused old new changes end LinkFault fit of absent bad = absurd of
+  contents_refused old new changes end ContentsFailed fit of absent bad = tt
+  contents_refused old new changes end DiskFault fit of absent bad = tt
+  contents_refused old new changes end (BadFeed place) fit of absent bad = absurd of
+  contents_refused old new changes end (BadContent place) fit of absent bad = (fit, bad)
+  contents_refused old new changes end (NoBytes place) fit of absent bad = (fit, absent)
+  contents_refused old new changes end NoGeneration fit of absent bad = absurd of
+  contents_refused old new changes end Memory fit of absent bad = tt
 
   -- ---- of what a reader has left
 

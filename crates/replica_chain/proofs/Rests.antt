@@ -38,6 +38,7 @@ module _ {D : Type 0} (disk_says : DiskSays D) where
     rows = n.rows;
     tells = n.tells;
     contents = n.contents;
+    pending_contents = n.pending_contents;
     before = n.before;
     at = n.at;
     number = n.number;
@@ -80,44 +81,36 @@ module _ {D : Type 0} (disk_says : DiskSays D) where
   -- a step from a node with another rest
   pub from_rested : (old new : Node D) (c : Chronicle) (up : Upstream) (rest : List ℕ) (T : List (List ℕ) → Type 0) (B : List ℕ → Type 0) → GoesOnBehind disk_says (with_rest old rest) new c up T B
       → GoesOnBehind disk_says old new c up T B
-  from_rested old new c up rest T B step = record {
-    now = step.now;
-    no_fewer = step.no_fewer;
-    later = step.later;
-    grown = step.grown;
-    more = step.more;
-    texts_told = step.texts_told;
-    bytes_told = step.bytes_told;
-    behind = step.behind;
-    any_moment = step.any_moment;
-  }
+  from_rested old new c up rest T B step =
+      let s = step.stays in
+      record {
+        later = step.later;
+        grown = step.grown;
+        more = step.more;
+        texts_told = step.texts_told;
+        bytes_told = step.bytes_told;
+        stays = record { now = s.now; no_fewer = s.no_fewer; behind = s.behind; any_moment = s.any_moment };
+      }
 
   -- and to one
+  behind_to : (old new : Node D) (c : Chronicle) (up : Upstream) (rest : List ℕ) (T : List (List ℕ) → Type 0) (B : List ℕ → Type 0) (step : GoesOnBehind disk_says old new c up T B)
+      → IsBehind disk_says (with_rest new rest) step.stays.now step.later → GoesOnBehind disk_says old (with_rest new rest) c up T B
+  behind_to old new c up rest T B step b =
+      let s = step.stays in
+      record {
+        later = step.later;
+        grown = step.grown;
+        more = step.more;
+        texts_told = step.texts_told;
+        bytes_told = step.bytes_told;
+        stays = record { now = s.now; no_fewer = s.no_fewer; behind = b; any_moment = s.any_moment };
+      }
+
   pub to_rested : (old new : Node D) (c : Chronicle) (up : Upstream) (rest : List ℕ) (T : List (List ℕ) → Type 0) (B : List ℕ → Type 0) (step : GoesOnBehind disk_says old new c up T B)
-      → Has (text_of step.later.texts (length step.now.closed)) (record { at = new.at; length = length rest }) rest → HasNoGroup new.number rest
+      → Has (text_of step.later.texts (length step.stays.now.closed)) (record { at = new.at; length = length rest }) rest → HasNoGroup new.number rest
       → GoesOnBehind disk_says old (with_rest new rest) c up T B
-  to_rested old new c up rest T B step has none = record {
-    now = step.now;
-    no_fewer = step.no_fewer;
-    later = step.later;
-    grown = step.grown;
-    more = step.more;
-    texts_told = step.texts_told;
-    bytes_told = step.bytes_told;
-    behind = rested_behind new step.now step.later rest step.behind has none;
-    any_moment = step.any_moment;
-  }
+  to_rested old new c up rest T B step has none = behind_to old new c up rest T B step (rested_behind new step.stays.now step.later rest step.stays.behind has none)
 
   pub to_emptied : (old new : Node D) (rest : List ℕ) → rest ≡ [] → (c : Chronicle) (up : Upstream) (T : List (List ℕ) → Type 0) (B : List ℕ → Type 0) → GoesOnBehind disk_says old new c up T B
       → GoesOnBehind disk_says old (with_rest new rest) c up T B
-  to_emptied old new rest is c up T B step = record {
-    now = step.now;
-    no_fewer = step.no_fewer;
-    later = step.later;
-    grown = step.grown;
-    more = step.more;
-    texts_told = step.texts_told;
-    bytes_told = step.bytes_told;
-    behind = emptied_behind new rest is step.now step.later step.behind;
-    any_moment = step.any_moment;
-  }
+  to_emptied old new rest is c up T B step = behind_to old new c up rest T B step (emptied_behind new rest is step.stays.now step.later step.stays.behind)

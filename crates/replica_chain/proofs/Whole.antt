@@ -21,9 +21,8 @@ use Rattle.replica_pull.proofs.Counted.{with_groups}
 use Rattle.replica_pull.proofs.Firsts.{begins}
 use Rattle.replica_chain.specs.Chronicle.{Chronicle, changes_of, generations_of, rows_made, texts_of, with_beginning, with_changes}
 use Rattle.replica_chain.specs.Masters.{HasAllOf, IsBehind, IsDepotOf, Upstream}
-use Rattle.replica_chain.specs.Node.{IsPending, reach_of}
+use Rattle.replica_chain.specs.Node.{IsPending}
 use Rattle.replica_chain.specs.declared.node.Node.{Node}
-use Rattle.replica_chain.proofs.Chains.{shorter}
 use Rattle.replica_chain.proofs.Following.{front_of, last_same}
 use Rattle.replica_chain.proofs.Growing.{changes_begun, changes_push, groups_push}
 use Rattle.replica_chain.proofs.Prefixes.{earlier_changes, files_stand, one_text}
@@ -95,11 +94,7 @@ module _ {D : Type 0} (disk_says : DiskSays D) (node : Node D) where
       go : IsBehind disk_says node theirs up → HasAllOf disk_says node theirs bytes
       go b =
           let n = b.is_node in
-          record {
-            is_node = n;
-            nothing_more = not_doubted theirs n.doubt n.pending both n.is_pending b.earlier;
-            front = shorter (disk_says.may_leave (archive_disk_of node.archive)) (reach_of node.archive (rows_made n.pending)) (used_of node.archive) bytes (omega arith) b.front;
-          }
+          record { is_node = n; nothing_more = not_doubted theirs n.doubt n.pending both n.is_pending b.earlier; front = b.front }
 
   -- each pair of its images stands for the depot
   pub all_stand : (c : Chronicle) (bytes : List ℕ) (d : List Deed) → HasAllOf disk_says node c bytes → IsDepotOf c bytes d

@@ -1,5 +1,5 @@
 -- The contents that changes name, how they are copied, and what is said of the faults of copying and of checking them. This project's own choice.
-use Rattle.std.specs.Prelude.{◌≡◌, ◌≢◌, ◌≤◌, ◌<◌, ℕ, ◌+◌, ◌-◌, IsTrue, List, [], ◌∷◌, ◌++◌, length, max, min, take, Result}
+use Rattle.std.specs.Prelude.{◌≡◌, ◌≢◌, ◌≤◌, ◌<◌, ℕ, ◌+◌, ◌-◌, ◌^◌, IsTrue, List, [], ◌∷◌, ◌++◌, length, max, min, take, Result}
 use Rattle.std.specs.List.{AllByRecursion}
 use Rattle.std.specs.Result.{IfErr}
 use Rattle.outside_api.specs.Disk.{Files, StillTells}
@@ -76,10 +76,22 @@ pub record AreCopied {D : Type 0} (disk_says : DiskSays D) (told_before told_now
   pub told : (before : List ℕ) → told_before before → HasFrontTo (disk_says.may_leave (disk_of old)) (used_of old) before →
       (now : List ℕ) × (told_now now × (IsFront before now × HasFrontTo (disk_says.may_leave (disk_of new)) (max (used_of old) place) now))
 
--- Where its disk tells what it reads, an archive has the contents that changes name.
-pub record AreBrought {D : Type 0} (disk_says : DiskSays D) (told_before told_now : List ℕ → Type 0) (old new : Archive D) (changes : List Change) : Type 0 where
-  pub copied : AreCopied disk_says told_before told_now old new (named_ends changes)
-  pub named : (files : Files) → disk_says.seen (disk_of new) files → HasAllNamed (files 0) changes
+-- An archive keeps what lay below the end of what was used of it. Where its images had the same bytes up to there, they have the same ones as far as it is used
+-- now; and where the first of them were those that are told, so are these.
+pub record IsFilled {D : Type 0} (disk_says : DiskSays D) (told_before told_now : List ℕ → Type 0) (old new : Archive D) : Type 0 where
+  pub keeps : KeepsContents disk_says old new
+  pub tells : StillTells (disk_says.seen (disk_of old)) (disk_says.seen (disk_of new))
+  pub small : used_of new < 2 ^ 63
+  pub reach : AllReach (disk_says.may_leave (disk_of new)) (used_of new)
+  pub same : (before : List ℕ) → HasFrontTo (disk_says.may_leave (disk_of old)) (used_of old) before →
+      (now : List ℕ) × (IsFront (take (used_of old) before) now × HasFrontTo (disk_says.may_leave (disk_of new)) (used_of new) now)
+  pub told : (before : List ℕ) → told_before before → HasFrontTo (disk_says.may_leave (disk_of old)) (used_of old) before →
+      (now : List ℕ) × (told_now now × (IsFront before now × HasFrontTo (disk_says.may_leave (disk_of new)) (used_of new) now))
+
+-- Below the end of what is used of it an archive has the contents that changes name, where its disk tells what it reads.
+pub record AreBrought {D : Type 0} (disk_says : DiskSays D) (archive : Archive D) (changes : List Change) : Type 0 where
+  pub within : named_ends changes ≤ used_of archive
+  pub named : (files : Files) → disk_says.seen (disk_of archive) files → HasAllNamed (files 0) changes
 
 -- ---- why they aren't had
 

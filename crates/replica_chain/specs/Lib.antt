@@ -6,7 +6,6 @@ pub mod Ends
 pub mod Faults
 pub mod Feed
 pub mod Masters
-pub mod Moments
 pub mod Node
 pub mod Opening
 pub mod Pulling

@@ -1,9 +1,10 @@
 -- Nodes behind a master: each has the first of its changes, and opens to the depot after them (Server Administrator Guide, "Replication", on replicas that take
 -- over). That the groups of a journal are the changes of its depot is this project's own choice.
-use Rattle.std.specs.Prelude.{◌≡◌, ◌≤◌, ℕ, ◌+◌, List, length, codes, min, take}
+use Rattle.std.specs.Prelude.{◌≡◌, ◌≤◌, ℕ, ◌+◌, List, length, codes, min}
 use Rattle.std.specs.List.{AllByRecursion}
 use Rattle.outside_api.specs.Disk.{Files}
 use Rattle.outside_api.specs.Link.{IsEarlier, text_of}
+use Rattle.outside_api.specs.Moments.{LeavesOnly}
 use Rattle.outside_api.specs.Reaching.{Reaches}
 use Rattle.outside_api.specs.Says.{DiskSays}
 use Rattle.archive_file.specs.Archive.{Has, disk_of as archive_disk_of, used_of}
@@ -26,8 +27,7 @@ use Rattle.replica_pull.specs.Prefix.{HasGrown, HasNoGroup, IsJournalOf, first_r
 use Rattle.replica_chain.specs.Chronicle.{Chronicle, changes_of, generations_of, rows_made, texts_of}
 use Rattle.replica_chain.specs.Copying.{KeepsContents}
 use Rattle.replica_chain.specs.Ends.{IsLinkLooked}
-use Rattle.replica_chain.specs.Moments.{LeavePairs}
-use Rattle.replica_chain.specs.Node.{HasFrontTo, IsNode, files_of, reach_of}
+use Rattle.replica_chain.specs.Node.{HasFrontTo, IsNode}
 use Rattle.replica_chain.specs.declared.link.NodeLink.{NodeLink}
 use Rattle.replica_chain.specs.declared.node.Node.{Node}
 
@@ -62,7 +62,7 @@ pub record IsBehind {D : Type 0} (disk_says : DiskSays D) (node : Node D) (c : C
   pub earlier : IsEarlier (texts_of is_node.pending) up.texts
   pub rest : Has (text_of up.texts (length c.closed)) (record { at = node.at; length = length node.rest }) node.rest
   pub no_group : HasNoGroup node.number node.rest
-  pub front : HasFrontTo (disk_says.may_leave (archive_disk_of node.archive)) (reach_of node.archive (rows_made is_node.pending)) up.bytes
+  pub front : HasFrontTo (disk_says.may_leave (archive_disk_of node.archive)) (used_of node.archive) up.bytes
 
 -- a pair of images stands for the depot after some of a master's changes, no fewer than the one number and no more than the other
 pub record StandsAfter (after : ℕ → List Deed) (least most : ℕ) (journal archive : Files) : Type 0 where
@@ -87,32 +87,35 @@ pub record HasGroupsOf (c : Chronicle) (image : Files) : Type 0 where
   pub are : was.groups ≡ group_texts 1 c.newest
   pub rows : HasAllRows was (rows_made c)
 
--- A pair of images: the journal's has whole changes, no fewer than these, which are the first ones upstream; and the archive's has the first of the bytes there,
--- as far as the spots of the rows that these changes make.
-pub record HaveSomeOf (c : Chronicle) (up : Upstream) (journal archive : Files) : Type 0 where
+-- An image of the journal's disk has whole changes, no fewer than these, which are the first ones of these texts; the spots of the rows that they make end no
+-- further than a place.
+pub record HasSomeOf (c : Chronicle) (texts : List (List ℕ)) (place : ℕ) (image : Files) : Type 0 where
   pub then : Chronicle
   pub no_fewer : IsEarlier (texts_of c) (texts_of then)
-  pub earlier : IsEarlier (texts_of then) up.texts
-  pub has : HasGroupsOf then journal
-  pub within : spots_end (rows_made then Rev) ≤ length up.bytes
-  pub front : Has (archive 0) (record { at = 0; length = spots_end (rows_made then Rev) }) (take (spots_end (rows_made then Rev)) up.bytes)
+  pub earlier : IsEarlier (texts_of then) texts
+  pub has : HasGroupsOf then image
+  pub ends : spots_end (rows_made then Rev) ≤ place
+
+-- A node that had these changes is behind this upstream, and has no fewer. Each image of its journal's disk, at every moment since, has some of the changes there,
+-- no fewer than the node had; and each image of its archive now has the bytes there as far as it is used, which is no less than where the spots of these end.
+pub record StaysBehind {D : Type 0} (disk_says : DiskSays D) (old new : Node D) (c : Chronicle) (up : Upstream) : Type 0 where
+  pub now : Chronicle
+  pub no_fewer : IsEarlier (texts_of c) (texts_of now)
+  pub behind : IsBehind disk_says new now up
+  pub any_moment : LeavesOnly disk_says (disk_of old.link.journal) (disk_of new.link.journal) (HasSomeOf c up.texts (used_of new.archive))
 
 -- each journal that is told is one of whole groups
 abbrev pub TellsGroups : (List (List ℕ) → Type 0) → Type 0
 TellsGroups told = (texts : List (List ℕ)) → told texts → (generations : List (List (List Change))) × IsJournalOf texts generations
 
--- A node that had these changes, and was behind what it followed, is behind what it is told now, and has no fewer; and so has each pair of images of its disks, at
--- every moment since.
+-- A node that had these changes, and was behind what it followed, stays behind what it is told now.
 pub record GoesOnBehind {D : Type 0} (disk_says : DiskSays D) (old new : Node D) (c : Chronicle) (up : Upstream) (told_texts : List (List ℕ) → Type 0) (told_bytes : List ℕ → Type 0) : Type 0 where
-  pub now : Chronicle
-  pub no_fewer : IsEarlier (texts_of c) (texts_of now)
   pub later : Upstream
   pub grown : HasGrown up.texts later.texts
   pub more : IsFront up.bytes later.bytes
   pub texts_told : told_texts later.texts
   pub bytes_told : told_bytes later.bytes
-  pub behind : IsBehind disk_says new now later
-  pub any_moment : LeavePairs disk_says (HaveSomeOf c later) (files_of old) (files_of new)
+  pub stays : StaysBehind disk_says old new c later
 
 -- a node that had these changes has them, and perhaps more
 pub record HasNoFewer {D : Type 0} (disk_says : DiskSays D) (new : Node D) (c : Chronicle) : Type 0 where
@@ -128,14 +131,7 @@ pub record WasFollowed {D : Type 0} (disk_says : DiskSays D) (old new : Node D) 
   pub archive : Reaches (λ (before now : Archive D). IsArchiveLooked disk_says before now) old.archive new.archive
   pub others : new ≡ record old { link = new.link; archive = new.archive }
 
--- A node that had these changes is behind this upstream, and has no fewer; and so has each pair of images of its disks, at every moment since.
-pub record StaysBehind {D : Type 0} (disk_says : DiskSays D) (old new : Node D) (c : Chronicle) (up : Upstream) : Type 0 where
-  pub now : Chronicle
-  pub no_fewer : IsEarlier (texts_of c) (texts_of now)
-  pub behind : IsBehind disk_says new now up
-  pub any_moment : LeavePairs disk_says (HaveSomeOf c up) (files_of old) (files_of new)
-
--- A node was followed, and another that was behind what it told is behind the same, whatever it had, at every moment since; and its archive keeps what was used of it.
+-- A node was followed, and another that was behind what it told stays behind the same, whatever it had; and its archive keeps what was used of it.
 pub record GoesOnBehindNode {D : Type 0} (disk_says : DiskSays D) (up up_new old new : Node D) : Type 0 where
   pub followed : WasFollowed disk_says up up_new
   pub keeps : KeepsContents disk_says old.archive new.archive

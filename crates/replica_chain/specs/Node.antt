@@ -1,6 +1,6 @@
 -- What a node has of the depot that it follows: whole changes, from the first on, and the contents that they name (Server Administrator Guide, "Replication";
 -- how a node follows, and that contents come before the group that names them, is this project's own choice).
-use Rattle.std.specs.Prelude.{◌≡◌, ◌≤◌, ◌<◌, ℕ, ◌+◌, ◌*◌, ◌^◌, List, length, map, max, take}
+use Rattle.std.specs.Prelude.{◌≡◌, ◌≤◌, ◌<◌, ℕ, ◌+◌, ◌*◌, ◌^◌, List, length, map, take}
 use Rattle.std.specs.List.{AllByRecursion, concat}
 use Rattle.outside_api.specs.Disk.{Files}
 use Rattle.outside_api.specs.Says.{DiskSays}
@@ -45,18 +45,12 @@ pub record HasFrontTo (images : Files → Type 0) (place : ℕ) (bytes : List �
   pub within : place ≤ length bytes
   pub has : AllHave images (record { at = 0; length = place }) (take place bytes)
 
--- how far an archive has its bytes: up to the end of what is used of it, and that of the spots of the rows that are in doubt
-abbrev pub reach_of : {D : Type 0} → Archive D → AllRows → ℕ
-reach_of archive pending = max (used_of archive) (spots_end (pending Rev))
-
--- Each image of an archive has the same bytes as far as it is used, where the spots of the rows end, and these are their contents. So it has those of the rows
--- with what is in doubt.
-pub record HasContentsOf {D : Type 0} (disk_says : DiskSays D) (archive : Archive D) (rows pending : AllRows) : Type 0 where
+-- Each image of an archive has the same bytes as far as it is used. The spots of the rows end there, and these are their contents.
+pub record HasContentsOf {D : Type 0} (disk_says : DiskSays D) (archive : Archive D) (rows : AllRows) : Type 0 where
   pub bytes : List ℕ
-  pub front : HasFrontTo (disk_says.may_leave (archive_disk_of archive)) (reach_of archive pending) bytes
+  pub front : HasFrontTo (disk_says.may_leave (archive_disk_of archive)) (used_of archive) bytes
   pub ends : spots_end (rows Rev) ≤ used_of archive
   pub whole : AreWhole bytes (rows Rev)
-  pub pending_whole : AreWhole bytes (pending Rev)
 
 -- ---- a node
 
@@ -80,19 +74,20 @@ pub record IsNode {D : Type 0} (disk_says : DiskSays D) (node : Node D) (c : Chr
   pub pending_has : HasAllRows (with_doubt was doubt) (rows_made pending)
   pub rows : rows_of node.tables ≡ rows_made c
   pub tells : (files : Files) × disk_says.seen (archive_disk_of node.archive) files
-  pub contents : HasContentsOf disk_says node.archive (rows_made c) (rows_made pending)
+  pub contents : HasContentsOf disk_says node.archive (rows_made c)
+  pub pending_contents : HasContentsOf disk_says node.archive (rows_made pending)
   pub before : node.before ≡ length (concat (map (groups_text 1) c.closed))
   pub at : node.at ≡ length (groups_text 1 c.newest)
   pub number : node.number ≡ 1 + length c.newest
   pub changes : node.changes ≡ length (changes_of c)
 
--- A node can follow: what is committed of its journal is known, and what is in doubt; each image of its archive reaches as far as it is used; and its counts are
--- those of a text of fewer than 2 ^ 63 bytes, five for each group's mark.
+-- A node can follow: what is committed of its journal is known, and what is in doubt; each image of its archive reaches as far as it is used, which is fewer than
+-- 2 ^ 63 bytes; and its counts are those of a text of fewer than 2 ^ 63 bytes, five for each group's mark.
 pub record CanFollow {D : Type 0} (disk_says : DiskSays D) (node : Node D) : Type 0 where
   pub was : Committed
   pub doubt : Doubtful
   pub stands : Stands disk_says node.link.journal was doubt
-  pub archive_end : node.tables.archive_end ≡ used_of node.archive
+  pub archive_end : used_of node.archive < 2 ^ 63
   pub room : AllReach (disk_says.may_leave (archive_disk_of node.archive)) (used_of node.archive)
   pub short : node.before + node.at + length node.rest < 2 ^ 63
   pub numbered : 5 * node.number ≤ 5 + node.at

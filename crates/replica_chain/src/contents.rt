@@ -1,6 +1,6 @@
 //! Copying the contents that a group names, and checking them.
 
-ghost use Rattle.std.specs.Prelude.{◌≡◌, ◌≢◌, ◌+◌, ◌<◌, ◌≤◌, ◌^◌, ℕ, List, length, min, Err, IfOk, IfSome, None, OnOk};
+ghost use Rattle.std.specs.Prelude.{◌≡◌, ◌≢◌, ◌+◌, ◌<◌, ◌≤◌, ◌^◌, ℕ, List, length, min, Err, IfSome, None, OnOk};
 ghost use Rattle.std.specs.Result.{IfErr};
 ghost use Rattle.archive_file.specs.Archive.{AllHave, Has, disk_of, end_of as spot_end_of, used_of};
 ghost use Rattle.archive_file.specs.Contents.{IsFront};
@@ -12,7 +12,7 @@ ghost use Rattle.outside_api.specs.Moments.{LeavesOnly};
 ghost use Rattle.outside_api.specs.Reaching.{Reaches};
 ghost use Rattle.recovery.specs.Contents.{HasDigested, bytes_at};
 ghost use Rattle.recovery.specs.Looking.{IsCause, OnlyReads};
-ghost use Rattle.replica_chain.specs.Copying.{AreBrought, AreCopied, HasAllNamed, KeepsUsed, IfBadContent, IfNoBytes, IsAbsent, IsBadContent, IsOfBringing, IsOfContent, IsOfContents, IsOfCopying, IsOfRevision, HasNamed, named_end, named_ends};
+ghost use Rattle.replica_chain.specs.Copying.{AreBrought, AreCopied, HasAllNamed, IsFilled, KeepsUsed, IfBadContent, IfNoBytes, IsAbsent, IsBadContent, IsOfBringing, IsOfContent, IsOfContents, IsOfCopying, IsOfRevision, HasNamed, named_end, named_ends};
 ghost use Rattle.replica_chain.specs.Node.{AllReach};
 ghost use Rattle.replica_chain.specs.declared.fault.NodeFault.TheVariants as faults;
 
@@ -194,21 +194,18 @@ fn check_contents<D: Disk>(
     Ok(())
 }
 
-/// Brings the contents that changes name to their spots, copies what isn't there and checks all of them, and answers where the last spot ends. They aren't counted
-/// as used yet.
+/// Brings the contents that changes name to their spots: copies what isn't there, checks all of them, and counts them as used.
 pub(crate) fn bring_contents<D: Disk, C: Contents>(
     alloc: Global,
     contents: &mut C,
     archive: &mut Archive<D>,
     changes: &[Change],
-) -> Result<u64, NodeFault>
+) -> Result<(), NodeFault>
     requires room { AllReach (D.says.may_leave (disk_of archive.old)) (used_of archive.old) }
     requires small { used_of archive.old < 2 ^ 63 }
-    ensures end { IfOk result (λ end. (end ≡ named_ends changes.now) × (end < 2 ^ 63)) }
-    ensures brought { OnOk result (AreBrought D.says (C.tells contents.old) (C.tells contents.new) archive.old archive.new changes.now) }
-    ensures keeps { KeepsUsed D.says archive.old archive.new }
-    ensures grows { (before : List ℕ) → C.tells contents.old before → (now : List ℕ) × (C.tells contents.new now × IsFront before now) }
-    ensures absent { IfNoBytes result (λ place. (bytes : List ℕ) → C.tells contents.new bytes → IsAbsent bytes (used_of archive.old) (named_ends changes.now) place) }
+    ensures filled { IsFilled D.says (C.tells contents.old) (C.tells contents.new) archive.old archive.new }
+    ensures brought { OnOk result (AreBrought D.says archive.new changes.now) }
+    ensures absent { IfNoBytes result (λ place. (bytes : List ℕ) → C.tells contents.new bytes → IsAbsent bytes (used_of archive.new) (named_ends changes.now) place) }
     ensures bad { IfBadContent result (λ place. (files : Files) → D.says.seen (disk_of archive.new) files → IsBadContent (files 0) changes.now place) }
     ensures only { IfErr result IsOfBringing }
     ensures contents_reached { Reaches C.keeps contents.old contents.new }
@@ -218,5 +215,6 @@ pub(crate) fn bring_contents<D: Disk, C: Contents>(
     let end = spots_end(changes);
     copy_contents(alloc, contents, archive, end)?;
     check_contents(alloc, archive, changes)?;
-    Ok(end)
+    archive.keep(Spot { at: end, length: 0 });
+    Ok(())
 }

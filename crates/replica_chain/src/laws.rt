@@ -9,14 +9,14 @@ ghost use Rattle.depot_rows.specs.depot_model.Deeds.{Deed};
 ghost use Rattle.disk_journal.specs.Stands.{disk_of};
 ghost use Rattle.journal_groups.specs.Groups.{IsGroup};
 ghost use Rattle.outside_api.specs.Disk.{Files};
+ghost use Rattle.outside_api.specs.Moments.{LeavesOnly};
 ghost use Rattle.recovery.specs.Holding.{spots_end};
 ghost use Rattle.recovery.specs.Standing.{StandFor};
 ghost use Rattle.replica_chain.specs.Apart.{IsComparison};
 ghost use Rattle.replica_chain.specs.Chronicle.{Chronicle, changes_of, generations_of, rows_made, texts_of};
 ghost use Rattle.replica_chain.specs.Ends.{HasTexts, TellsTexts};
-ghost use Rattle.replica_chain.specs.Masters.{HasAllOf, HaveSomeOf, IsBehind, IsDepotOf, IsMaster, OpensToAPrefix, StandsAfter, TellsGroups, Upstream, WasFollowed};
-ghost use Rattle.replica_chain.specs.Moments.{LeavePairs};
-ghost use Rattle.replica_chain.specs.Node.{IsNode, files_of};
+ghost use Rattle.replica_chain.specs.Masters.{HasAllOf, IsBehind, IsDepotOf, IsMaster, OpensToAPrefix, StandsAfter, StaysBehind, TellsGroups, Upstream, WasFollowed};
+ghost use Rattle.replica_chain.specs.Node.{IsNode};
 ghost use Rattle.replica_chain.specs.Opening.{AreWritten, IsFresh};
 
 use crate::node::Node;
@@ -35,12 +35,13 @@ pub fn nodes_open_to_prefixes<D: Disk>(node: &Node<D>)
         IsBehind D.says node.now mine (record { texts = texts_of theirs; bytes = bytes }) → OpensToAPrefix D.says node.now after (length (changes_of theirs)) (length (changes_of mine)) }
 {}
 
-/// So does each pair of images that was left at any moment of calls which left pairs with some of the changes upstream, as those of a pull do, and of a whole
-/// following: for no fewer changes than the node had.
+/// So does, after a pull or a whole following, each image that its journal's disk left at any moment since that began, with each image of its archive now: for no
+/// fewer changes than the node had.
 pub fn nodes_open_at_every_moment<D: Disk>(old: &Node<D>, new: &Node<D>)
     ensures { (mine theirs : Chronicle) (bytes : List ℕ) (after : ℕ → List Deed) → IsMaster theirs bytes after → IsNode D.says old.now mine →
-        LeavePairs D.says (HaveSomeOf mine (record { texts = texts_of theirs; bytes = bytes })) (files_of old.now) (files_of new.now) →
-        LeavePairs D.says (StandsAfter after (length (changes_of mine)) (length (changes_of theirs))) (files_of old.now) (files_of new.now) }
+        StaysBehind D.says old.now new.now mine (record { texts = texts_of theirs; bytes = bytes }) →
+        LeavesOnly D.says (disk_of old.now.link.journal) (disk_of new.now.link.journal) (λ journal. (archive : Files) → D.says.may_leave (archive_disk_of new.now.archive) archive →
+        StandsAfter after (length (changes_of mine)) (length (changes_of theirs)) journal archive) }
 {}
 
 /// A node that others followed has the changes that it had, and tells no other texts and bytes.

@@ -3,7 +3,6 @@
 ghost use Rattle.std.specs.Prelude.{◌≡◌, ◌⊎◌, ◌+◌, ◌-◌, ◌≤◌, ◌<◌, ◌^◌, ◌++◌, [], ℕ, List, length, Err, IfOk, OnErr, OnOk, IsErr};
 ghost use Rattle.std.specs.Result.{IfErr};
 ghost use Rattle.archive_file.specs.Archive.{Has, disk_of as archive_disk_of, used_of};
-ghost use Rattle.archive_file.specs.Contents.{IsFront};
 ghost use Rattle.depot_rows.specs.db_records.declared.change.Change.{Change as AnyChange};
 ghost use Rattle.disk_journal.specs.Images.{Committed, HasEither, with_group};
 ghost use Rattle.disk_journal.specs.Keeping.{KeepsOlder};
@@ -19,7 +18,7 @@ ghost use Rattle.recovery.specs.Looking.{AreCauses, IsCause};
 ghost use Rattle.recovery.specs.Pieces.{AreAllGood};
 ghost use Rattle.depot_rows.specs.table_changes.Changed.{AllFitIn, rows_of};
 ghost use Rattle.replica_chain.specs.Chronicle.{Chronicle};
-ghost use Rattle.replica_chain.specs.Copying.{AreBrought, IfBadContent, IfNoBytes, IsAbsent, IsBadContent, IsOfBringing, KeepsContents, KeepsUsed, named_ends};
+ghost use Rattle.replica_chain.specs.Copying.{AreBrought, IfBadContent, IfNoBytes, IsAbsent, IsBadContent, IsFilled, IsOfBringing, KeepsContents, named_ends};
 ghost use Rattle.replica_chain.specs.Ends.{KeepsScanned};
 ghost use Rattle.replica_chain.specs.Masters.{GoesOnBehind, HasNoFewer, IsBehind, TellsGroups, Upstream};
 ghost use Rattle.replica_chain.specs.Node.{CanFollow, IsNode, IsSettled};
@@ -32,7 +31,7 @@ use crate::feed::{check_rest, next_changes, tables_after};
 use crate::node::Node;
 use archive_file::Contents;
 use depot_rows::paths::Text;
-use depot_rows::records::{Change, Spot};
+use depot_rows::records::Change;
 use disk_journal::Scanned;
 use journal_groups::{GroupReader, Moved};
 use outside_api::{Disk, Fetched, Link};
@@ -47,40 +46,38 @@ const PIECE: usize = 65_536;
 const MOST: u64 = 0x7FFF_FFFF_FFFF_FFFF;
 
 impl<D: Disk> Node<D> {
-    /// Copies the contents that a group names, checks them, and commits its changes. It answers where the last spot ends.
+    /// Copies the contents that a group names, checks them and counts them as used, and then commits its changes.
     fn commit_group<C: Contents>(
         &mut self,
         alloc: Global,
         contents: &mut C,
         changes: &[Change],
-    ) -> Result<u64, NodeFault>
+    ) -> Result<(), NodeFault>
         requires can { CanFollow D.says self.old }
         requires settled { IsSettled D.says self.old }
-        ensures end { IfOk result (λ end. (end ≡ named_ends changes.now) × (end < 2 ^ 63)) }
-        ensures brought { OnOk result (AreBrought D.says (C.tells contents.old) (C.tells contents.new) self.old.archive self.new.archive changes.now) }
-        ensures keeps { KeepsUsed D.says self.old.archive self.new.archive }
+        ensures filled { IsFilled D.says (C.tells contents.old) (C.tells contents.new) self.old.archive self.new.archive }
+        ensures brought { OnOk result (AreBrought D.says self.new.archive changes.now) }
         ensures others { self.new ≡ record self.old { link = self.new.link; archive = self.new.archive } }
         // The group is behind what was committed; or it isn't, or is in doubt, with its contents in the archive.
         ensures committed { (was : Committed) → Stands D.says self.old.link.journal was nothing → OnOk result (Stands D.says self.new.link.journal (with_group was (group_text (length was.groups + 1) changes.now)) nothing) }
         ensures uncommitted { (was : Committed) → Stands D.says self.old.link.journal was nothing → OnErr result (IsStill D.says self.old.link.journal self.new.link.journal was
-            ⊎ (Stands D.says self.new.link.journal was (group (group_text (length was.groups + 1) changes.now)) × AreBrought D.says (C.tells contents.old) (C.tells contents.new) self.old.archive self.new.archive changes.now)) }
+            ⊎ (Stands D.says self.new.link.journal was (group (group_text (length was.groups + 1) changes.now)) × AreBrought D.says self.new.archive changes.now)) }
         ensures any_moment { (was : Committed) → Stands D.says self.old.link.journal was nothing →
             LeavesOnly D.says (disk_of self.old.link.journal) (disk_of self.new.link.journal) (HasEither was (with_group was (group_text (length was.groups + 1) changes.now))) }
         ensures older { (older : List (List (List ℕ))) → KeepsOlder D.says self.old.link.journal older → KeepsOlder D.says self.new.link.journal older }
         ensures scanned { KeepsScanned D.says self.old.link self.new.link }
-        ensures grows { (before : List ℕ) → C.tells contents.old before → (now : List ℕ) × (C.tells contents.new now × IsFront before now) }
-        ensures absent { IfNoBytes result (λ place. (bytes : List ℕ) → C.tells contents.new bytes → IsAbsent bytes (used_of self.old.archive) (named_ends changes.now) place) }
+        ensures absent { IfNoBytes result (λ place. (bytes : List ℕ) → C.tells contents.new bytes → IsAbsent bytes (used_of self.new.archive) (named_ends changes.now) place) }
         ensures bad { IfBadContent result (λ place. (files : Files) → D.says.seen (archive_disk_of self.new.archive) files → IsBadContent (files 0) changes.now place) }
         ensures only { IfErr result IsOfBringing }
         ensures contents_reached { Reaches C.keeps contents.old contents.new }
         ensures contents_cause { IsCause (C.faults contents.old) (C.faults contents.new) (result ≡ Err faults.ContentsFailed) }
         ensures cause { AreCauses (D.says.faults (disk_of self.old.link.journal)) (D.says.faults (disk_of self.new.link.journal)) (D.says.faults (archive_disk_of self.old.archive)) (D.says.faults (archive_disk_of self.new.archive)) (result ≡ Err faults.DiskFault) }
     {
-        let end = bring_contents(alloc, contents, &mut self.archive, changes)?;
+        bring_contents(alloc, contents, &mut self.archive, changes)?;
         let prepared = self.link.journal.prepare(alloc, changes)?;
         self.link.scanned = Scanned::nothing();
         self.link.journal.commit(prepared)?;
-        Ok(end)
+        Ok(())
     }
 
     /// Takes a group, whose records end at a place of the generation's text: copies the contents that it names, checks those of its revisions, and commits
@@ -114,14 +111,9 @@ impl<D: Disk> Node<D> {
         ensures contents_cause { IsCause (C.faults contents.old) (C.faults contents.new) (result ≡ Err faults.ContentsFailed) }
         ensures cause { AreCauses (D.says.faults (disk_of self.old.link.journal)) (D.says.faults (disk_of self.new.link.journal)) (D.says.faults (archive_disk_of self.old.archive)) (D.says.faults (archive_disk_of self.new.archive)) (result ≡ Err faults.DiskFault) }
     {
-        let mut tables = tables_after(alloc, &self.tables, changes, end)?;
+        let tables = tables_after(alloc, &self.tables, changes, end)?;
         match self.commit_group(alloc, contents, changes) {
-            Ok(last) => {
-                self.archive.keep(Spot {
-                    at: last,
-                    length: 0,
-                });
-                tables.set_archive_end(self.archive.used());
+            Ok(()) => {
                 self.tables = tables;
                 self.at = end;
                 self.number += 1;

@@ -22,7 +22,7 @@ returns-then-generation-ge-LAST-clause-node g c = λ chronicle n. record { now =
 pub returns-then-generation-ge-LAST-clause-behind : goal.returns-then-generation-ge-LAST-clause-behind
 returns-then-generation-ge-LAST-clause-behind g c = λ chronicle up b next.
     let node = c.args.self.now in
-    at_first g.D.Disk.says node chronicle up (λ bytes. bytes ≡ up.bytes) refl b
+    at_first g.D.Disk.says g.met.D.Disk.only_now node chronicle up (λ bytes. bytes ≡ up.bytes) refl b
 
 pub returns-in_err-tables-clause-node : goal.returns-in_err-tables-clause-node
 returns-in_err-tables-clause-node g c = λ chronicle n. record { now = chronicle; no_fewer = earlier_self chronicle; is_node = n }
@@ -30,7 +30,7 @@ returns-in_err-tables-clause-node g c = λ chronicle n. record { now = chronicle
 pub returns-in_err-tables-clause-behind : goal.returns-in_err-tables-clause-behind
 returns-in_err-tables-clause-behind g c = λ chronicle up b next.
     let node = c.args.self.now in
-    at_first g.D.Disk.says node chronicle up (λ bytes. bytes ≡ up.bytes) refl b
+    at_first g.D.Disk.says g.met.D.Disk.only_now node chronicle up (λ bytes. bytes ≡ up.bytes) refl b
 
 -- ---- it was begun
 
@@ -55,7 +55,7 @@ returns-in-Ok-clause-can g c =
     let less : generation_of_journal c.args.self.now.link.journal < 4095 = omega (arith, below, c.generation-generation.ensures) in
     let next_is : n + 1 ≡ generation_of_journal c.args.self.now.link.journal + 1 = ap (λ (k : ℕ). k + 1) c.generation-generation.ensures in
     begun_can g.D.Disk.says c.args.self.now c.requires.settled (record { journal = c.write_next.new.journal; scanned = c.nothing-self.result }) (rows_of c.in_ok-tables.tables) (n + 1) next_is less c.in_ok-tables.ensures.rows
-    c.in_ok-tables.tables refl c.new.result c.new.ensures c.in-Ok.ensures.generation c.in-Ok.ensures.ok c.requires.can c.in_ok-tables.ensures.end
+    c.in_ok-tables.tables refl c.new.result c.new.ensures c.in-Ok.ensures.generation c.in-Ok.ensures.ok c.requires.can
 
 pub returns-in-Ok-clause-passed : goal.returns-in-Ok-clause-passed
 returns-in-Ok-clause-passed g c =

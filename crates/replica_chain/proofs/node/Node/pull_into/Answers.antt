@@ -21,7 +21,7 @@ pub returns-in_err-fetched-clause-behind : goal.returns-in_err-fetched-clause-be
 returns-in_err-fetched-clause-behind g c = λ chronicle up told bytes groups b.
     let node = c.args.self.now in
     let more = c.fetch.ensures.grows up.texts told in
-    unmoved_goes g.D.Disk.says node chronicle up (g.L.Link.says.tells c.fetch.new.self) (g.C.Contents.tells c.args.contents.now) bytes b more.0 more.1 more.2
+    unmoved_goes g.D.Disk.says g.met.D.Disk.only_now node chronicle up (g.L.Link.says.tells c.fetch.new.self) (g.C.Contents.tells c.args.contents.now) bytes b more.0 more.1 more.2
 
 pub returns-in-End-clause-node : goal.returns-in-End-clause-node
 returns-in-End-clause-node g c = λ chronicle n. record { now = chronicle; no_fewer = earlier_self chronicle; is_node = n }
@@ -44,7 +44,7 @@ pub returns-in-End-clause-behind : goal.returns-in-End-clause-behind
 returns-in-End-clause-behind g c = λ chronicle up told bytes groups b.
     let node = c.args.self.now in
     let more = c.fetch.ensures.grows up.texts told in
-    unmoved_goes g.D.Disk.says node chronicle up (g.L.Link.says.tells c.fetch.new.self) (g.C.Contents.tells c.args.contents.now) bytes b more.0 more.1 more.2
+    unmoved_goes g.D.Disk.says g.met.D.Disk.only_now node chronicle up (g.L.Link.says.tells c.fetch.new.self) (g.C.Contents.tells c.args.contents.now) bytes b more.0 more.1 more.2
 
 -- ---- the next generation
 

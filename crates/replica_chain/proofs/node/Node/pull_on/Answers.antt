@@ -35,7 +35,7 @@ returns-in_err-piece-clause-behind g c = λ chronicle up told bytes groups b.
     let T = g.L.Link.says.tells c.args.link.now in
     let B = g.C.Contents.tells c.args.contents.now in
     told_as g.D.Disk.says node node chronicle up (λ texts. texts ≡ up.texts) T B B (λ texts is. subst T (sym is) told) (λ bytes has. has)
-    (at_first g.D.Disk.says node chronicle up B bytes b)
+    (at_first g.D.Disk.says g.met.D.Disk.only_now node chronicle up B bytes b)
 
 -- ---- what is in doubt can't be settled
 
@@ -152,8 +152,8 @@ returns-clause-behind g c = λ chronicle up told bytes groups b.
     let T = g.L.Link.says.tells c.pull_into-moved.new.link in
     let B = g.C.Contents.tells c.args.contents.now in
     let first = settled_goes says old (record { journal = c.settle.new.self; scanned = c.nothing-self.result }) c.settle.ensures.keeps (λ scanned files sees. c.nothing-self.ensures _) same chronicle up b B bytes (c.settle.ensures.any_moment n.was n.doubt n.stands) stands in
-    behind_on says old (with_link old (record { journal = c.settle.new.self; scanned = c.nothing-self.result })) new chronicle up (λ texts. texts ≡ up.texts) T T B (g.C.Contents.tells c.pull_into-moved.new.contents) first
-    (c.pull_into-moved.ensures.behind first.now first.later (subst before (sym first.texts_told) told) first.bytes_told groups first.behind) (λ texts was has. has)
+    behind_on says old (with_link old (record { journal = c.settle.new.self; scanned = c.nothing-self.result })) new chronicle up (λ texts. texts ≡ up.texts) T T B (g.C.Contents.tells c.pull_into-moved.new.contents) c.pull_into-moved.ensures.keeps.used first
+    (c.pull_into-moved.ensures.behind first.stays.now first.later (subst before (sym first.texts_told) told) first.bytes_told groups first.stays.behind) (λ texts was has. has)
 
 pub returns-clause-cause : goal.returns-clause-cause
 returns-clause-cause g c =

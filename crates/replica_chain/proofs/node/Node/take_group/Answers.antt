@@ -1,20 +1,17 @@
-use Rattle.std.proofs.Common.{◌≡◌, ◌+◌, max, length, refl, ◌∙◌, arith}
-use Rattle.archive_file.specs.Archive.{disk_of as archive_disk_of, used_of}
-use Rattle.depot_rows.specs.table_changes.Changed.{rows_of}
+use Rattle.std.proofs.Common.{◌+◌, length, ◌∙◌, arith}
+use Rattle.archive_file.specs.Archive.{disk_of as archive_disk_of}
 use Rattle.depot_rows.specs.table_store.declared.tables.Tables.{Tables}
 use Rattle.disk_journal.specs.Images.{with_group}
 use Rattle.journal_groups.specs.Groups.{group_text}
-use Rattle.replica_chain.specs.Copying.{named_ends}
-use Rattle.replica_chain.specs.Pulling.{HasTakenGroup, IsRefused}
-use Rattle.replica_chain.specs.declared.node.Node.{Node}
+use Rattle.replica_chain.specs.Pulling.{IsRefused}
 use Rattle.replica_chain.proofs.Growing.{earlier_self}
 use Rattle.replica_chain.proofs.PassedOn.{passed_fault}
 use Rattle.replica_chain.proofs.Refusals.{contents_refused, misfit_refused}
 use Rattle.replica_chain.proofs.Steps.{at_first}
 use Rattle.replica_chain.proofs.Grouping.{settled_stands}
-use Rattle.replica_chain.proofs.Tried.{committed_behind, committed_fewer, counted_reach, group_taken, next_stands, same_rest, stands_of, taken_can, tried_behind, tried_can, tried_fewer, uncommitted_generation, where_it_was}
+use Rattle.replica_chain.proofs.Tried.{committed_behind, committed_fewer, group_taken, next_stands, same_rest, stands_of, taken_can, tried_behind, tried_can, tried_fewer, uncommitted_generation, where_it_was}
 use Rattle.outside_api.specs.Reaching.{stays}
-use Rattle.replica_chain.proofs.Kept.{keeps_brought, keeps_first}
+use Rattle.replica_chain.proofs.Kept.{keeps_first}
 use Rattle.replica_chain.proofs.node.Node.take_group.Goals as goal
 
 -- the changes don't fit, or there is no memory
@@ -34,7 +31,7 @@ returns-in_err-tables-clause-node g c = λ chronicle n. record { now = chronicle
 pub returns-in_err-tables-clause-behind : goal.returns-in_err-tables-clause-behind
 returns-in_err-tables-clause-behind g c = λ chronicle up told b has.
     let node = c.args.self.now in
-    at_first g.D.Disk.says node chronicle up (g.C.Contents.tells c.args.contents.now) told b
+    at_first g.D.Disk.says g.met.D.Disk.only_now node chronicle up (g.C.Contents.tells c.args.contents.now) told b
 
 -- ---- it wasn't committed
 
@@ -46,7 +43,7 @@ returns-in-Err-clause-can g c =
     let was = c.requires.settled.0 in
     let found = c.in-Err.ensures.uncommitted was c.requires.settled.1 in
     let stands = stands_of says old new was _ _ found in
-    tried_can says old new c.commit_group.ensures.others c.requires.can (uncommitted_generation says old new was c.requires.settled.1 stands) was stands.0 stands.1 c.commit_group.ensures.keeps
+    tried_can says old new c.commit_group.ensures.others c.requires.can (uncommitted_generation says old new was c.requires.settled.1 stands) was stands.0 stands.1 _ _ c.commit_group.ensures.filled
 
 pub returns-in-Err-clause-rest : goal.returns-in-Err-clause-rest
 returns-in-Err-clause-rest g c = same_rest g.D.Disk.says c.args.self.now c.commit_group.new.self c.commit_group.ensures.others ∙ c.requires.rest
@@ -64,64 +61,41 @@ pub returns-in-Err-clause-refused : goal.returns-in-Err-clause-refused
 returns-in-Err-clause-refused g c =
     let says = g.D.Disk.says in
     let told = g.C.Contents.tells c.commit_group.new.contents in
-    contents_refused says told c.args.self.now c.commit_group.new.self c.args.changes.now c.args.end c.in-Err.fault c.in_ok-tables.ensures.fit c.commit_group.ensures.keeps.used c.in-Err.ensures.only c.in-Err.ensures.absent c.in-Err.ensures.bad
+    contents_refused says told c.args.self.now c.commit_group.new.self c.args.changes.now c.args.end c.in-Err.fault c.in_ok-tables.ensures.fit c.in-Err.ensures.only c.in-Err.ensures.absent c.in-Err.ensures.bad
 
 pub returns-in-Err-clause-node : goal.returns-in-Err-clause-node
 returns-in-Err-clause-node g c = λ chronicle n.
     let says = g.D.Disk.says in
     let old = c.args.self.now in
     let new = c.commit_group.new.self in
+    let done = c.commit_group.ensures in
     let stands = settled_stands says old chronicle n c.requires.settled in
     let found = c.in-Err.ensures.uncommitted n.was stands in
-    let where_is = where_it_was says old new c.commit_group.ensures.others (uncommitted_generation says old new n.was stands (stands_of says old new n.was _ _ found)) in
-    tried_fewer says old new c.requires.settled c.commit_group.ensures.keeps c.commit_group.ensures.older c.commit_group.ensures.scanned (g.met.D.Disk.reads_an_image (archive_disk_of new.archive)) where_is (g.C.Contents.tells c.args.contents.now)
-    (g.C.Contents.tells c.commit_group.new.contents) c.args.changes.now c.requires.is_group c.in_ok-tables.ensures.fit chronicle n found
+    let where_is = where_it_was says old new done.others (uncommitted_generation says old new n.was stands (stands_of says old new n.was _ _ found)) in
+    tried_fewer says old new c.requires.settled (g.C.Contents.tells c.args.contents.now) (g.C.Contents.tells c.commit_group.new.contents) done.filled done.older done.scanned
+    (g.met.D.Disk.reads_an_image (archive_disk_of new.archive)) c.args.changes.now c.requires.is_group c.in_ok-tables.ensures.fit where_is chronicle n found
 
 pub returns-in-Err-clause-behind : goal.returns-in-Err-clause-behind
 returns-in-Err-clause-behind g c = λ chronicle up told b has.
     let says = g.D.Disk.says in
     let old = c.args.self.now in
     let new = c.commit_group.new.self in
+    let done = c.commit_group.ensures in
     let n = b.is_node in
     let stands = settled_stands says old chronicle n c.requires.settled in
     let found = c.in-Err.ensures.uncommitted n.was stands in
-    let where_is = where_it_was says old new c.commit_group.ensures.others (uncommitted_generation says old new n.was stands (stands_of says old new n.was _ _ found)) in
-    tried_behind says old new c.requires.settled c.commit_group.ensures.keeps c.commit_group.ensures.older c.commit_group.ensures.scanned (g.met.D.Disk.reads_an_image (archive_disk_of new.archive)) where_is (g.C.Contents.tells c.args.contents.now)
-    (g.C.Contents.tells c.commit_group.new.contents) c.args.changes.now c.requires.is_group c.in_ok-tables.ensures.fit chronicle up b (same_rest says old new c.commit_group.ensures.others) told c.commit_group.ensures.grows
-    (next_stands says old chronicle up b c.args.changes.now c.args.end c.requires.end has) (c.commit_group.ensures.any_moment n.was stands) found
+    let where_is = where_it_was says old new done.others (uncommitted_generation says old new n.was stands (stands_of says old new n.was _ _ found)) in
+    tried_behind says old new c.requires.settled (g.C.Contents.tells c.args.contents.now) (g.C.Contents.tells c.commit_group.new.contents) done.filled done.older done.scanned
+    (g.met.D.Disk.reads_an_image (archive_disk_of new.archive)) c.args.changes.now c.requires.is_group c.in_ok-tables.ensures.fit chronicle up b told
+    (next_stands says old chronicle up b c.args.changes.now c.args.end c.requires.end has) (done.any_moment n.was stands) where_is (same_rest says old new done.others) found
 
 -- ---- it was committed
 
-pub keep-requires : goal.keep-requires
-keep-requires g c = omega (arith, c.in-Ok.ensures.end.1)
-
-pub set_archive_end-requires : goal.set_archive_end-requires
-set_archive_end-requires g c =
-    let end = c.requires.can.archive_end in
-    let fits = c.args.self.now.tables.end_fits in
-    let kept = c.commit_group.ensures.keeps.used in
-    omega (arith, c.used.ensures, c.keep.ensures.used, c.in-Ok.ensures.end.1, end, fits, kept)
-
 pub returns-in-Ok-clause-can : goal.returns-in-Ok-clause-can
 returns-in-Ok-clause-can g c =
-    let says = g.D.Disk.says in
-    let old = c.args.self.now in
-    let new = c.commit_group.new.self in
-    let changes = c.args.changes.now in
-    let was = c.requires.settled.0 in
-    let stands = c.requires.settled.1 in
-    let brought = c.in-Ok.ensures.brought in
-    let place = c.in-Ok.ensures.end.0 in
-    let kept_used = c.commit_group.ensures.keeps.used in
-    let used : used_of c.keep.new.self ≡ max (used_of old.archive) (named_ends changes) = omega (arith, c.keep.ensures.used, place, kept_used) in
-    let rest = same_rest says old new c.commit_group.ensures.others ∙ c.requires.rest in
-    let same : rows_of c.set_archive_end.new.self ≡ rows_of c.in_ok-tables.tables = λ i table. (c.set_archive_end.ensures.versions table i).rows in
-    let kept : Node g.row.D.Denot = record new { archive = c.keep.new.self; tables = c.set_archive_end.new.self; at = c.args.end; number = new.number + 1; changes = new.changes + 1 } in
-    let taken : HasTakenGroup old kept changes c.args.end =
-    group_taken says old new kept c.commit_group.ensures.others was (group_text (length was.groups + 1) changes) stands (c.in-Ok.ensures.committed was stands) changes c.args.end c.in_ok-tables.ensures.fit
-    (same ∙ c.in_ok-tables.ensures.rows) refl refl refl refl refl in
-    taken_can says old kept changes c.args.end (with_group was (group_text (length was.groups + 1) changes)) c.requires.can taken c.requires.end c.requires.room rest (c.in-Ok.ensures.committed was stands)
-    (c.set_archive_end.ensures.end ∙ c.used.ensures) (counted_reach says new.archive c.keep.new.self (max (used_of old.archive) (named_ends changes)) c.keep.ensures.disk used brought.copied.reach)
+    let done = c.commit_group.ensures in
+    taken_can g.D.Disk.says c.args.self.now c.commit_group.new.self done.others c.requires.settled c.in_ok-tables.tables c.args.changes.now c.args.end c.in-Ok.ensures.committed c.in_ok-tables.ensures.fit c.in_ok-tables.ensures.rows
+    (g.C.Contents.tells c.args.contents.now) (g.C.Contents.tells c.commit_group.new.contents) done.filled c.requires.end c.requires.rest c.requires.can c.requires.room
 
 pub returns-in-Ok-clause-settled : goal.returns-in-Ok-clause-settled
 returns-in-Ok-clause-settled g c =
@@ -133,61 +107,28 @@ returns-in-Ok-clause-rest g c = same_rest g.D.Disk.says c.args.self.now c.commit
 
 pub returns-in-Ok-clause-taken : goal.returns-in-Ok-clause-taken
 returns-in-Ok-clause-taken g c =
-    let says = g.D.Disk.says in
-    let was = c.requires.settled.0 in
-    let stands = c.requires.settled.1 in
-    let changes = c.args.changes.now in
-    let same : rows_of c.set_archive_end.new.self ≡ rows_of c.in_ok-tables.tables = λ i table. (c.set_archive_end.ensures.versions table i).rows in
-    group_taken says c.args.self.now c.commit_group.new.self _ c.commit_group.ensures.others was (group_text (length was.groups + 1) changes) stands (c.in-Ok.ensures.committed was stands) changes c.args.end c.in_ok-tables.ensures.fit
-    (same ∙ c.in_ok-tables.ensures.rows) refl refl refl refl refl
+    group_taken g.D.Disk.says c.args.self.now c.commit_group.new.self c.commit_group.ensures.others c.requires.settled c.in_ok-tables.tables c.args.changes.now c.args.end c.in-Ok.ensures.committed c.in_ok-tables.ensures.fit
+    c.in_ok-tables.ensures.rows
 
 pub returns-in-Ok-clause-node : goal.returns-in-Ok-clause-node
-returns-in-Ok-clause-node g c = λ chronicle n.
-    let says = g.D.Disk.says in
-    let old = c.args.self.now in
+returns-in-Ok-clause-node g c =
     let new = c.commit_group.new.self in
-    let changes = c.args.changes.now in
-    let was = c.requires.settled.0 in
-    let stands = c.requires.settled.1 in
-    let brought = c.in-Ok.ensures.brought in
-    let place = c.in-Ok.ensures.end.0 in
-    let kept_used = c.commit_group.ensures.keeps.used in
-    let used : used_of c.keep.new.self ≡ max (used_of old.archive) (named_ends changes) = omega (arith, c.keep.ensures.used, place, kept_used) in
-    let rest = same_rest says old new c.commit_group.ensures.others ∙ c.requires.rest in
-    let same : rows_of c.set_archive_end.new.self ≡ rows_of c.in_ok-tables.tables = λ i table. (c.set_archive_end.ensures.versions table i).rows in
-    let kept : Node g.row.D.Denot = record new { archive = c.keep.new.self; tables = c.set_archive_end.new.self; at = c.args.end; number = new.number + 1; changes = new.changes + 1 } in
-    let taken : HasTakenGroup old kept changes c.args.end =
-    group_taken says old new kept c.commit_group.ensures.others was (group_text (length was.groups + 1) changes) stands (c.in-Ok.ensures.committed was stands) changes c.args.end c.in_ok-tables.ensures.fit
-    (same ∙ c.in_ok-tables.ensures.rows) refl refl refl refl refl in
-    committed_fewer says old new kept c.requires.settled c.commit_group.ensures.keeps c.commit_group.ensures.older c.commit_group.ensures.scanned (g.met.D.Disk.reads_an_image (archive_disk_of new.archive)) (g.C.Contents.tells c.args.contents.now)
-    (g.C.Contents.tells c.commit_group.new.contents) changes c.requires.is_group brought c.args.end taken c.requires.end refl c.keep.ensures.disk used rest chronicle n
-    (c.in-Ok.ensures.committed n.was (settled_stands says old chronicle n c.requires.settled))
+    let done = c.commit_group.ensures in
+    committed_fewer g.D.Disk.says c.args.self.now new done.others c.requires.settled c.in_ok-tables.tables c.args.changes.now c.args.end c.in-Ok.ensures.committed c.in_ok-tables.ensures.fit c.in_ok-tables.ensures.rows
+    (g.C.Contents.tells c.args.contents.now) (g.C.Contents.tells c.commit_group.new.contents) done.filled c.requires.end c.requires.rest done.older done.scanned
+    (g.met.D.Disk.reads_an_image (archive_disk_of new.archive)) c.requires.is_group c.in-Ok.ensures.brought
 
 pub returns-in-Ok-clause-behind : goal.returns-in-Ok-clause-behind
 returns-in-Ok-clause-behind g c = λ chronicle up told b has.
     let says = g.D.Disk.says in
     let old = c.args.self.now in
     let new = c.commit_group.new.self in
-    let changes = c.args.changes.now in
-    let was = c.requires.settled.0 in
-    let stands = c.requires.settled.1 in
-    let brought = c.in-Ok.ensures.brought in
-    let place = c.in-Ok.ensures.end.0 in
-    let kept_used = c.commit_group.ensures.keeps.used in
-    let used : used_of c.keep.new.self ≡ max (used_of old.archive) (named_ends changes) = omega (arith, c.keep.ensures.used, place, kept_used) in
-    let rest = same_rest says old new c.commit_group.ensures.others ∙ c.requires.rest in
-    let same : rows_of c.set_archive_end.new.self ≡ rows_of c.in_ok-tables.tables = λ i table. (c.set_archive_end.ensures.versions table i).rows in
-    let kept : Node g.row.D.Denot = record new { archive = c.keep.new.self; tables = c.set_archive_end.new.self; at = c.args.end; number = new.number + 1; changes = new.changes + 1 } in
-    let taken : HasTakenGroup old kept changes c.args.end =
-    group_taken says old new kept c.commit_group.ensures.others was (group_text (length was.groups + 1) changes) stands (c.in-Ok.ensures.committed was stands) changes c.args.end c.in_ok-tables.ensures.fit
-    (same ∙ c.in_ok-tables.ensures.rows) refl refl refl refl refl in
-    let n = b.is_node in
-    let stood = settled_stands says old chronicle n c.requires.settled in
+    let done = c.commit_group.ensures in
     let within = has.within in
-    committed_behind says old new kept c.requires.settled c.commit_group.ensures.keeps c.commit_group.ensures.older c.commit_group.ensures.scanned (g.met.D.Disk.reads_an_image (archive_disk_of new.archive)) (g.C.Contents.tells c.args.contents.now)
-    (g.C.Contents.tells c.commit_group.new.contents) changes c.requires.is_group brought c.args.end taken c.requires.end refl c.keep.ensures.disk used rest chronicle up b told
-    (next_stands says old chronicle up b changes c.args.end c.requires.end has) (c.in-Ok.ensures.committed n.was stood) (c.commit_group.ensures.any_moment n.was stood)
-    (record { within = omega (arith, within, c.requires.end); is = refl })
+    committed_behind says old new done.others c.requires.settled c.in_ok-tables.tables c.args.changes.now c.args.end c.in-Ok.ensures.committed c.in_ok-tables.ensures.fit c.in_ok-tables.ensures.rows
+    (g.C.Contents.tells c.args.contents.now) (g.C.Contents.tells c.commit_group.new.contents) done.filled c.requires.end c.requires.rest done.older done.scanned
+    (g.met.D.Disk.reads_an_image (archive_disk_of new.archive)) c.requires.is_group c.in-Ok.ensures.brought chronicle up b told
+    (next_stands says old chronicle up b c.args.changes.now c.args.end c.requires.end has) done.any_moment (omega (arith, within, c.requires.end))
 
 pub returns-in_err-tables-clause-contents_reached : goal.returns-in_err-tables-clause-contents_reached
 returns-in_err-tables-clause-contents_reached g c = stays
@@ -202,11 +143,7 @@ pub returns-in_err-tables-clause-keeps : goal.returns-in_err-tables-clause-keeps
 returns-in_err-tables-clause-keeps g c = keeps_first g.D.Disk.says g.met.D.Disk.only_now c.args.self.now.archive
 
 pub returns-in-Ok-clause-keeps : goal.returns-in-Ok-clause-keeps
-returns-in-Ok-clause-keeps g c =
-    let kept_used = c.commit_group.ensures.keeps.used in
-    keeps_brought g.D.Disk.says c.args.self.now.archive c.commit_group.new.self.archive c.keep.new.self c.commit_group.ensures.keeps c.keep.ensures.disk (omega (arith, c.keep.ensures.used, kept_used))
+returns-in-Ok-clause-keeps g c = c.commit_group.ensures.filled.keeps
 
 pub returns-in-Err-clause-keeps : goal.returns-in-Err-clause-keeps
-returns-in-Err-clause-keeps g c =
-    let kept_used = c.commit_group.ensures.keeps.used in
-    keeps_brought g.D.Disk.says c.args.self.now.archive c.commit_group.new.self.archive c.commit_group.new.self.archive c.commit_group.ensures.keeps refl (omega (arith, kept_used))
+returns-in-Err-clause-keeps g c = c.commit_group.ensures.filled.keeps

@@ -31,7 +31,7 @@ loop-changes-init g c =
       rest = c.requires.rest;
       taken = ([], (refl, no_group node c.args.reader.now c.requires.at c.requires.number));
       node = λ chronicle n. record { now = chronicle; no_fewer = earlier_self chronicle; is_node = n };
-      behind = λ chronicle up told b stands. (at_first g.D.Disk.says node chronicle up (g.C.Contents.tells c.args.contents.now) told b, stands);
+      behind = λ chronicle up told b stands. (at_first g.D.Disk.says g.met.D.Disk.only_now node chronicle up (g.C.Contents.tells c.args.contents.now) told b, stands);
       reached = stays;
       keeps = keeps_first g.D.Disk.says g.met.D.Disk.only_now node.archive;
       contents_count = omega arith;
@@ -110,7 +110,7 @@ returns-in_err-take_group-clause-behind g c = λ chronicle up told b stands.
     let step = c.loop-changes.invariant.behind chronicle up told b stands in
     let found : HasTaken left behind (Some c.in-Some.changes) = subst (IsNextOf left behind) c.in-Some.is c.in_ok-changes.ensures.found in
     let has : HasTaken left behind (Some c.as_slice.result.now) = subst (λ (l : List Change). HasTaken left behind (Some l)) (sym c.as_slice.ensures) found in
-    group_on says c.args.self.now mid c.take_group.new.self chronicle up (g.C.Contents.tells c.loop-changes.contents) (g.C.Contents.tells c.take_group.new.contents) b.is_node step.0 taken.generation left behind c.as_slice.result.now c.reached.result
+    group_on says c.args.self.now mid c.take_group.new.self chronicle up (g.C.Contents.tells c.loop-changes.contents) (g.C.Contents.tells c.take_group.new.contents) b.is_node step.0 taken.generation c.take_group.ensures.keeps.used left behind c.as_slice.result.now c.reached.result
     has (sym taken.at) (sym taken.number) (c.reached.ensures ∙ has.4) step.1 c.take_group.ensures.behind
 
 pub returns-in_err-take_group-clause-node : goal.returns-in_err-take_group-clause-node
@@ -156,7 +156,7 @@ loop-changes-preserved g c =
           record { now = second.now; no_fewer = earlier_on (texts_of chronicle) (texts_of first.now) (texts_of second.now) first.no_fewer second.no_fewer; is_node = second.is_node };
       behind = λ chronicle up told b stands.
           let step = inv.behind chronicle up told b stands in (
-            group_on says old mid new chronicle up (g.C.Contents.tells c.loop-changes.contents) (g.C.Contents.tells c.take_group.new.contents) b.is_node step.0 taken.1.1.generation left behind changes c.reached.result
+            group_on says old mid new chronicle up (g.C.Contents.tells c.loop-changes.contents) (g.C.Contents.tells c.take_group.new.contents) b.is_node step.0 taken.1.1.generation c.take_group.ensures.keeps.used left behind changes c.reached.result
                 has (sym taken.1.1.at) (sym taken.1.1.number) (c.reached.ensures ∙ has.4) step.1 c.take_group.ensures.behind,
             behind_stands (text_of up.texts (length chronicle.closed)) left behind changes has step.1,
           );

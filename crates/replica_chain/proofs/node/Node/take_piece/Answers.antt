@@ -32,7 +32,7 @@ returns-then-size-self-clause-behind g c = λ chronicle up told b has.
     let says = g.D.Disk.says in
     let node = c.args.self.now in
     let B = g.C.Contents.tells c.args.contents.now in
-    to_emptied says node node c.replace-rest.new.dest (c.replace-rest.ensures.after ∙ c.new.ensures) chronicle up (λ texts. texts ≡ up.texts) B (at_first says node chronicle up B told b)
+    to_emptied says node node c.replace-rest.new.dest (c.replace-rest.ensures.after ∙ c.new.ensures) chronicle up (λ texts. texts ≡ up.texts) B (at_first says g.met.D.Disk.only_now node chronicle up B told b)
 
 -- ---- there is no memory for the rest and the piece together
 
@@ -56,7 +56,7 @@ returns-in_err-text-clause-behind g c = λ chronicle up told b has.
     let says = g.D.Disk.says in
     let node = c.args.self.now in
     let B = g.C.Contents.tells c.args.contents.now in
-    to_emptied says node node c.replace-rest.new.dest (c.replace-rest.ensures.after ∙ c.new.ensures) chronicle up (λ texts. texts ≡ up.texts) B (at_first says node chronicle up B told b)
+    to_emptied says node node c.replace-rest.new.dest (c.replace-rest.ensures.after ∙ c.new.ensures) chronicle up (λ texts. texts ≡ up.texts) B (at_first says g.met.D.Disk.only_now node chronicle up B told b)
 
 -- ---- groups were taken, and then one wasn't
 
