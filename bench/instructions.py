@@ -65,3 +65,12 @@ def total(file: str) -> int:
     """How many instructions were counted up to a write, from the one before."""
     with open(file, encoding="utf-8", errors="replace") as text:
         return int(re.search(r"^totals: (\d+)", text.read(), re.MULTILINE)[1])
+
+
+def of_run(program: str, *words: str) -> int:
+    """What a whole run takes, the opening with it."""
+    with tempfile.TemporaryDirectory() as folder:
+        told = os.path.join(folder, "told")
+        count = ["valgrind", "-q", "--tool=callgrind", f"--callgrind-out-file={told}"]
+        subprocess.run([*count, program, *words], check=True, stdout=subprocess.DEVNULL)
+        return total(told)
