@@ -4,32 +4,18 @@ use Rattle.std.specs.Prelude.{ℕ, List, [], ◌∷◌, ◌++◌, codes, if◌th
 use Rattle.hex.specs.Hex.{decode_of}
 use Rattle.depot_rows.specs.depot_path.Bytes.{same}
 use Rattle.depot_rows.specs.db_records.declared.table.TableId.TheVariants as tables
-use Rattle.depot_rows.specs.table_changes.Changed.{AllRows}
 use Rattle.depot_rows.specs.depot_model.declared.reply.Row.{Row}
-use Rattle.depot_rows.specs.depot_model.declared.request.Caller.{Caller}
-use Rattle.depot_rows.specs.depot_model.Deeds.{Deed, Open, Opening}
-use Rattle.depot_rows.specs.depot_model.Rules.{IsSound}
+use Rattle.depot_rows.specs.depot_model.Deeds.{Open, Opening}
 use Rattle.depot_rows.specs.depot_model.Step.{Step, does}
 use Rattle.depot_rows.specs.depot_model.Steps.Opening.{opening_row}
 use Rattle.depot_rows.specs.depot_model.Steps.Shelving.{from_fields}
-use Rattle.depot_rows.specs.Standing.{HasRows}
 use Rattle.depot_rows.specs.declared.deed.Action.{Action}
 use Rattle.depot_rows.specs.declared.deed.Action.TheVariants as actions
 use Rattle.depot_rows.specs.declared.deed.Deed.TheVariants as dones
 use Rattle.depot_rows.specs.declared.deed.Opening.{Opening as Done}
-use Rattle.named_files.specs.Asked.{IsAsker}
-use Rattle.named_files.specs.declared.asker.Asker.{Asker}
 use Rattle.reply_rows.specs.declared.content.RowContent.{RowContent}
 use Rattle.reply_rows.specs.declared.content.RowContent.TheVariants.{Given}
 use Rattle.reply_rows.specs.declared.step.Step.{Step as Made}
-
--- the asker is that of the depot, and so are the forms, the opened files and the revisions
-pub record UnshelvingReads (caller : Caller) (asker : Asker) (rows : AllRows) (d : List Deed) : Type 0 where
-  pub sound : IsSound d
-  pub asked : IsAsker d caller asker
-  pub has_domain : HasRows rows d tables.Domain
-  pub has_working : HasRows rows d tables.Working
-  pub has_rev : HasRows rows d tables.Rev
 
 -- the action of a word in the form of a kept file, `add` for any other word
 abbrev pub word_action : List ℕ → Action

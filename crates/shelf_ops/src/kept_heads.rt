@@ -25,9 +25,9 @@ impl<'a> FileSet for KeptHeads<'a> {
     ghost use Rattle.depot_rows.specs.depot_model.declared.refusal.Refusal.TheVariants as refusals;
     ghost use Rattle.depot_rows.specs.depot_model.Shelves.{kept_paths};
     ghost use Rattle.named_files.specs.Sets.{at_head};
-    ghost use Rattle.shelf_ops.specs.Unshelved.{UnshelvingReads};
+    ghost use Rattle.shelf_ops.specs.Shelved.{OpenedReads};
 
-    ghost reads = { λ set rows d. UnshelvingReads set.caller.now set.asker.now rows d };
+    ghost reads = { λ set rows d. OpenedReads set.caller.now set.asker.now rows d };
 
     ghost files = { λ set d. kept_paths d set.change };
 

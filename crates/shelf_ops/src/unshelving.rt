@@ -13,7 +13,8 @@ ghost use Rattle.depot_rows.specs.Deed.{opening_of as opening_of_deed, source_of
 ghost use Rattle.depot_rows.specs.Standing.{HasRows};
 ghost use Rattle.named_files.specs.Asked.{IsAsker};
 ghost use Rattle.reply_rows.specs.Made.{IsMade, waiting};
-ghost use Rattle.shelf_ops.specs.Unshelved.{UnshelvingReads, given_block, opens_kept, opens_waiting, unshelved_at};
+ghost use Rattle.shelf_ops.specs.Shelved.{OpenedReads};
+ghost use Rattle.shelf_ops.specs.Unshelved.{given_block, opens_kept, opens_waiting, unshelved_at};
 
 use crate::keeping::{kept_form, shelf_refusal};
 use crate::kept_heads::KeptHeads;
@@ -131,7 +132,7 @@ impl<'a> Unshelving<'a> {
         opening: Opening,
         block: Option<Text>,
     ) -> Result<Step, AllocError>
-        ensures { IfOk result (λ step. (d e : List ModelDeed) → UnshelvingReads self.now.caller.now self.now.asker.now (rows_of tables.now) d →
+        ensures { IfOk result (λ step. (d e : List ModelDeed) → OpenedReads self.now.caller.now self.now.asker.now (rows_of tables.now) d →
             IsMade (rows_of tables.now) d e (model.unshelve_opening d self.now.caller.now (opening_of_deed opening) block) step) }
     {
         let path = &opening.path;
@@ -156,9 +157,9 @@ impl<'a> Unshelving<'a> {
 
 impl<'a> FileAct for Unshelving<'a> {
     ghost use Rattle.depot_rows.specs.depot_model.Steps.Shelving.{unshelve_file};
-    ghost use Rattle.shelf_ops.specs.Unshelved.{UnshelvingReads};
+    ghost use Rattle.shelf_ops.specs.Shelved.{OpenedReads};
 
-    ghost reads = { λ act rows d. UnshelvingReads act.caller.now act.asker.now rows d };
+    ghost reads = { λ act rows d. OpenedReads act.caller.now act.asker.now rows d };
 
     ghost acts = { λ act d argument path. unshelve_file d act.caller.now act.shelved act.change path };
 

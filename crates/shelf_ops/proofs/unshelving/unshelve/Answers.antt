@@ -18,7 +18,7 @@ use Rattle.named_files.specs.Asked.{IsAsker}
 use Rattle.named_files.specs.declared.asker.Asker.{Asker}
 use Rattle.named_files.proofs.Heads.{over_all_heads}
 use Rattle.command_parts.proofs.Refused.{first_told, if_ok, passed_first}
-use Rattle.shelf_ops.specs.Unshelved.{UnshelvingReads}
+use Rattle.shelf_ops.specs.Shelved.{OpenedReads}
 use Rattle.shelf_ops.proofs.unshelving.unshelve.Goals as goal
 
 abbrev Unshelves : AllRows → Caller → Asker → ℕ → Option ℕ → List FileArgument → Step → Type 0
@@ -48,7 +48,7 @@ returns c =
     let n = c.args.shelved in
     let arguments = c.args.arguments.now in
     if_ok {Q = Unshelves rows caller c.args.asker.now n c.args.change arguments} _ _ c.within_files.ensures (λ step within d asks sound asked domain working change rev.
-    let reads : UnshelvingReads caller c.args.asker.now rows d =
+    let reads : OpenedReads caller c.args.asker.now rows d =
     record { sound = sound; asked = asked; has_domain = domain; has_working = working; has_rev = rev } in
     let done = c.in_ok-done.done in
     let files = kept_paths d n in

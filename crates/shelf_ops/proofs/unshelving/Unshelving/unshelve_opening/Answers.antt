@@ -11,13 +11,14 @@ use Rattle.depot_rows.specs.declared.deed.Opening.{Opening as Done}
 use Rattle.reply_rows.specs.Made.{IsMade}
 use Rattle.reply_rows.specs.declared.step.Step.{Step}
 use Rattle.command_parts.proofs.Refused.{first_told, holding_told, if_ok, none_found, passed_first, passed_if}
-use Rattle.shelf_ops.specs.Unshelved.{UnshelvingReads, opens_kept}
+use Rattle.shelf_ops.specs.Shelved.{OpenedReads}
+use Rattle.shelf_ops.specs.Unshelved.{opens_kept}
 use Rattle.shelf_ops.specs.declared.unshelving.Unshelving.{Unshelving}
 use Rattle.shelf_ops.proofs.unshelving.Unshelving.unshelve_opening.Goals as goal
 
 abbrev Opens : AllRows → Unshelving → Done → Option (List ℕ) → Step → Type 0
 Opens rows own opening block step =
-    (d e : List Deed) → UnshelvingReads own.caller.now own.asker.now rows d → IsMade rows d e (unshelve_opening d own.caller.now (opening_of opening) block) step
+    (d e : List Deed) → OpenedReads own.caller.now own.asker.now rows d → IsMade rows d e (unshelve_opening d own.caller.now (opening_of opening) block) step
 
 pub returns-in-Some : goal.returns-in-Some
 returns-in-Some c = if_ok {Q = Opens (rows_of c.args.tables.now) c.args.self.now c.args.opening c.args.block} _ _ c.tells.ensures (λ step told d e reads.

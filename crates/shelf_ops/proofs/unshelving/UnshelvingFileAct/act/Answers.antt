@@ -7,7 +7,7 @@ use Rattle.reply_rows.specs.declared.step.Step.{Step}
 use Rattle.reply_rows.specs.Made.{IsMade}
 use Rattle.reply_rows.proofs.Bare.{tells_made}
 use Rattle.command_parts.proofs.Refused.{if_ok, none_found}
-use Rattle.shelf_ops.specs.Unshelved.{UnshelvingReads}
+use Rattle.shelf_ops.specs.Shelved.{OpenedReads}
 use Rattle.shelf_ops.proofs.Unshelved.{by_kept, by_none}
 use Rattle.shelf_ops.proofs.unshelving.UnshelvingFileAct.act.Goals as goal
 
@@ -25,7 +25,7 @@ returns c =
     let caller = own.caller.now in
     let path = c.args.path.now in
     let rows = rows_of c.args.tables.now in
-    let Q : Step → Type 0 = λ step. (d e : List Deed) → UnshelvingReads caller own.asker.now rows d → Unit {0}
+    let Q : Step → Type 0 = λ step. (d e : List Deed) → OpenedReads caller own.asker.now rows d → Unit {0}
     → IsMade rows d e (unshelve_file d caller own.shelved own.change path) step in
     if_ok {Q = Q} _ _ c.unshelve_opening.ensures (λ step made d e reads later.
     let kept_is = sym (c.in_ok-form.ensures d reads.sound reads.has_domain) ∙ c.in-Some.is in
