@@ -1,7 +1,8 @@
 -- The families of commands, by what they are about: each command is of one. This project's own choice.
 use Rattle.std.specs.Prelude.{Bool, true, false}
 use Rattle.depot_rows.specs.depot_model.declared.command.Command.{Command}
-use Rattle.depot_rows.specs.depot_model.declared.command.Command.TheVariants.{CounterShow, CounterSet, CounterDelete, Counters, ClientShow, ClientSave, LabelShow, LabelSave, Labels, GroupShow, GroupSave, ProtectShow, ProtectSave, Add, Edit, Delete, Move, Revert, Reopen, Lock, Unlock, Opened, ChangeShow, ChangeSave, ChangeDelete, Changes, Describe, Where, Sync, Have, Tag, LabelSync, Files, FileLog, Print, Dirs, FileStat, Integrate, Resolve, Integrated, Checkpoint, Pull, JobShow, JobSave, Jobs, Fix, FixDelete, Fixes, SubmitChange, SubmitDefault, Shelve, ShelveDelete, Unshelve, DescribeShelved}
+use Rattle.depot_rows.specs.depot_model.declared.command.Command.TheVariants.{CounterShow, CounterSet, CounterDelete, Counters, ClientShow, ClientSave, LabelShow, LabelSave, Labels, GroupShow, GroupSave, ProtectShow, ProtectSave, Add, Edit, Delete, Move, Revert, Reopen, Lock, Unlock, Opened, ChangeShow, ChangeSave, ChangeDelete, Changes, Describe, Where, Sync, Have, Tag, LabelSync, Files, FileLog, Print, Dirs, FileStat, Integrate, Resolve, Integrated, Checkpoint, Pull, JobShow, JobSave, Jobs, Fix, FixDelete, Fixes, Shelve, ShelveDelete, Unshelve, DescribeShelved}
+use Rattle.depot_rows.specs.depot_model.Tables.{writes_archive}
 
 -- counters and forms: of clients, labels, groups and protections, and those of changes that are saved or deleted
 abbrev pub is_spec : Command → Bool
@@ -79,11 +80,9 @@ is_job (FixDelete change jobs) = true
 is_job (Fixes change job) = true
 is_job _ = false
 
--- submits
+-- submits, which alone write to the archive
 abbrev pub is_submit : Command → Bool
-is_submit (SubmitChange change) = true
-is_submit (SubmitDefault text) = true
-is_submit _ = false
+is_submit command = writes_archive command
 
 -- shelved files
 abbrev pub is_shelf : Command → Bool

@@ -40,7 +40,8 @@ use Rattle.sound_form_steps.proofs.Changing.{checkpoint_sound}
 use Rattle.spec_ops.proofs.NextGeneration.{is_last, is_next}
 use Rattle.depot_rows.specs.table_changes.Changed.{AllRows, changed_by, changed_in}
 use Rattle.depot_rows.specs.table_store.Rows.{changed_once}
-use Rattle.depot_checkpoint.specs.Taking.{IsNextOf, MayHaveBegun, StandsBeforeOrAfter, checkpointed, next_generation, told_generation}
+use Rattle.depot_checkpoint.specs.Taking.{IsNextOf, MayHaveBegun, StandsBeforeOrAfter, checkpointed, next_generation}
+use Rattle.step_limits.specs.Limits.{generation_in}
 use Rattle.depot_checkpoint.specs.Values.{IsWide}
 
 -- ---- the generation behind one
@@ -60,17 +61,17 @@ some_behind generation below = ap (λ (b : Bool). if b then None else Some (gene
 -- ---- the depot after a checkpoint: of the next generation, or, at the last one, as it was
 
 -- the counter of the generation, as a row and as deeds count it
-told_is_counted : (d : List Deed) → told_generation d ≡ generation d
+told_is_counted : (d : List Deed) → generation_in d ≡ generation d
 told_is_counted d = go (count_of d (codes "journal"))
   where
     go : (said : Option ℕ) → value_of (option_map (λ value. Counter (record { name = codes "journal"; value = value })) said) ≡ unwrap_or said 0
     go None = refl
     go (Some n) = refl
 
-pub is_begun : (d : List Deed) (n : ℕ) → told_generation d ≡ n → n < 4095 → checkpointed d ≡ of_generation (n + 1) d
+pub is_begun : (d : List Deed) (n : ℕ) → generation_in d ≡ n → n < 4095 → checkpointed d ≡ of_generation (n + 1) d
 is_begun d n is below = ap (λ (s : Step). after d s.deeds) (is_next d n (sym is ∙ told_is_counted d) below)
 
-pub is_over : (d : List Deed) (n : ℕ) → told_generation d ≡ n → 4095 ≤ n → checkpointed d ≡ d
+pub is_over : (d : List Deed) (n : ℕ) → generation_in d ≡ n → 4095 ≤ n → checkpointed d ≡ d
 is_over d n is last = ap (λ (s : Step). after d s.deeds) (is_last d n (sym is ∙ told_is_counted d) last)
 
 -- ---- its changes are of counters alone
@@ -137,7 +138,7 @@ revisions_stay (change ∷ changes) rows all = revisions_stay changes (changed_i
 
 -- ---- the text of the rows after it
 
-module _ (was : Committed) (rows : AllRows) (d : List Deed) (changes : List Change) (has : HasAllRows was rows) (stand : Stand rows d) (tells : told_generation d ≡ was.generation) (below : was.generation < 4095)
+module _ (was : Committed) (rows : AllRows) (d : List Deed) (changes : List Change) (has : HasAllRows was rows) (stand : Stand rows d) (tells : generation_in d ≡ was.generation) (below : was.generation < 4095)
     (differences : AreDifferences rows d (checkpointed d) changes) where
   begun : checkpointed d ≡ of_generation (was.generation + 1) d
   begun = is_begun d was.generation tells below
@@ -166,7 +167,7 @@ module _ (was : Committed) (rows : AllRows) (d : List Deed) (changes : List Chan
       let key = keys.Counter (codes "journal") in
       let now : HasRows rows (checkpointed d) ids.Counter = subst (λ (l : List Change). HasRows (changed_by rows l) (checkpointed d) ids.Counter) none (differences.left ids.Counter (stand.each ids.Counter)) in
       let same = ap value_of (sym (now key refl) ∙ stand.each ids.Counter key refl) in
-      let next = ap told_generation begun in
+      let next = ap generation_in begun in
       omega (arith, same, next, tells)
 
   pub next_has : All (λ (change : Change). IsWide change.row) changes → (text : List ℕ)

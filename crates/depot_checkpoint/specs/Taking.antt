@@ -1,12 +1,9 @@
 -- A checkpoint that is taken with no rights asked (Command-Line Reference, "p4 admin"; Server Administrator Guide, "Backup and recovery").
-use Rattle.std.specs.Prelude.{◌≡◌, ◌≢◌, ◌⊎◌, ◌+◌, ℕ, List, [], ◌∷◌, ◌++◌, Option, Some, None, codes, nat_le, if◌then◌else◌}
+use Rattle.std.specs.Prelude.{◌≡◌, ◌≢◌, ◌⊎◌, ◌+◌, ℕ, List, [], ◌∷◌, ◌++◌, Option, Some, None, nat_le, if◌then◌else◌}
 use Rattle.outside_api.specs.Disk.{Files}
 use Rattle.outside_api.specs.Says.{DiskSays}
 use Rattle.depot_rows.specs.db_records.declared.change.Change.{Change}
-use Rattle.depot_rows.specs.db_records.declared.key.Key.TheVariants as keys
 use Rattle.depot_rows.specs.depot_model.Deeds.{Deed}
-use Rattle.depot_rows.specs.depot_model.Records.{record_of}
-use Rattle.depot_rows.specs.depot_model.Rules.{value_of}
 use Rattle.depot_rows.specs.depot_model.Step.{after}
 use Rattle.depot_rows.specs.depot_model.Steps.Checkpoint.{checkpoint}
 use Rattle.depot_rows.specs.Standing.{Stand}
@@ -18,14 +15,11 @@ use Rattle.disk_journal.specs.declared.journal.Journal.{Journal}
 use Rattle.recovery.specs.Holding.{HasAllRows}
 use Rattle.recovery.specs.Standing.{StandFor}
 use Rattle.row_changes.specs.Differences.{AreDifferences}
+use Rattle.step_limits.specs.Limits.{generation_in}
 
 -- the generation that is begun behind this one; behind generation 4,095 there is none
 abbrev pub next_generation : ℕ → Option ℕ
 next_generation generation = if nat_le 4095 generation then None else Some (generation + 1)
-
--- the generation that a depot tells
-abbrev pub told_generation : List Deed → ℕ
-told_generation d = value_of (record_of d (keys.Counter (codes "journal")))
 
 -- the depot after the deeds of `admin checkpoint`, which are none at the last generation
 abbrev pub checkpointed : List Deed → List Deed
@@ -57,7 +51,7 @@ module _ {D : Type 0} (disk_says : DiskSays D) (journal : Journal D) (was : Comm
     pub stands : Stands disk_says journal was nothing
     pub has : HasAllRows was rows
     pub stand : Stand rows d
-    pub generation : told_generation d ≡ was.generation
+    pub generation : generation_in d ≡ was.generation
     pub keeps : KeepsOlder disk_says journal older
 
   -- The next generation has begun, and the groups of the one that was the newest are kept among those before.

@@ -13,7 +13,8 @@ ghost use Rattle.recovery.specs.Holding.{HasAllRows};
 ghost use Rattle.recovery.specs.Standing.{StandFor};
 ghost use Rattle.row_changes.specs.Differences.{AreDifferences};
 ghost use Rattle.depot_rows.specs.table_changes.Changed.{AllFitIn, rows_of};
-ghost use Rattle.depot_checkpoint.specs.Taking.{CanBegin, HasBegun, IsNextOf, MayHaveBegun, StandsBeforeOrAfter, checkpointed, next_generation, told_generation};
+ghost use Rattle.depot_checkpoint.specs.Taking.{CanBegin, HasBegun, IsNextOf, MayHaveBegun, StandsBeforeOrAfter, checkpointed, next_generation};
+ghost use Rattle.step_limits.specs.Limits.{generation_in};
 ghost use Rattle.depot_checkpoint.specs.declared.fault.TakingFault.TheVariants as faults;
 
 use crate::fault::TakingFault;
@@ -46,7 +47,7 @@ fn checkpoint_changes(alloc: Global, tables: &Tables) -> Result<Vec<Change>, All
 fn next_text(alloc: Global, tables: &Tables, generation: u32) -> Result<Text, AllocError>
     requires { generation < 4095 }
     ensures { IfOk result (λ text. (was : Committed) (d : List Deed) → HasAllRows was (rows_of tables.now) → Stand (rows_of tables.now) d →
-        told_generation d ≡ was.generation → was.generation ≡ generation → IsNext was (rows_of tables.now) d text × IsNextOf was (rows_of tables.now) d text) }
+        generation_in d ≡ was.generation → was.generation ≡ generation → IsNext was (rows_of tables.now) d text × IsNextOf was (rows_of tables.now) d text) }
 {
     let changes = checkpoint_changes(alloc, tables)?;
     let items = changes.as_slice();
