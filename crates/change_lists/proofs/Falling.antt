@@ -8,7 +8,7 @@ use Rattle.std.proofs.lemmas.List.{reverse-append}
 use Rattle.std.proofs.lemmas.List.Kept.{AllPairs-from_increasing}
 use Rattle.std.proofs.lemmas.Map.Keys.{IsStrictlyIncreasing-dedup}
 use Rattle.std.specs.Option.{option_flatten, option_or}
-use Rattle.std.proofs.lemmas.Bool.{false≢true}
+use Rattle.std.proofs.lemmas.Bool.{false≢true, or_parts}
 use Rattle.std.proofs.lemmas.Bool.Decides.{nat_tests}
 use Rattle.depot_rows.specs.depot_model.Deeds as deeds
 use Rattle.depot_rows.specs.depot_model.Deeds.{Deed, Landing, Pending}
@@ -105,25 +105,17 @@ numbers_under (deeds.Land l ∷ d) =
     insert_under (max l.change (top d) + 1) l.change (numbers d) (one_more l.change (top d)) (under_more (top d + 1) (max l.change (top d) + 1) (more_one l.change (top d)) (numbers d) (numbers_under d))
 numbers_under (_ ∷ d) = numbers_under d
 
-or_left : (a b : Bool) → (a || b) ≡ false → a ≡ false
-or_left true b e = e
-or_left false b e = refl
-
-or_right : (a b : Bool) → (a || b) ≡ false → b ≡ false
-or_right true b e = absurd (false≢true (sym e))
-or_right false b e = e
-
 -- a number of which no deed speaks is of no change
 pub not_pending : (d : List Deed) (m : ℕ) → is_among m (numbers d) ≡ false → pending d m ≡ None
 not_pending [] m e = refl
 not_pending (deeds.Pend p ∷ d) m e =
     let gone = sym (in_inserted m p.change (numbers d)) ∙ e in
-    ap (λ (b : Bool). option_flatten (option_or (when b (Some p)) (latest (pending_said m) d))) (or_left (p.change == m) (is_among m (numbers d)) gone)
-    ∙ not_pending d m (or_right (p.change == m) (is_among m (numbers d)) gone)
+    ap (λ (b : Bool). option_flatten (option_or (when b (Some p)) (latest (pending_said m) d))) (or_parts (p.change == m) (is_among m (numbers d)) gone).0
+    ∙ not_pending d m (or_parts (p.change == m) (is_among m (numbers d)) gone).1
 not_pending (deeds.Land l ∷ d) m e =
     let gone = sym (in_inserted m l.change (numbers d)) ∙ e in
-    ap (λ (b : Bool). option_flatten (option_or (when b None) (latest (pending_said m) d))) (or_left (l.change == m) (is_among m (numbers d)) gone)
-    ∙ not_pending d m (or_right (l.change == m) (is_among m (numbers d)) gone)
+    ap (λ (b : Bool). option_flatten (option_or (when b None) (latest (pending_said m) d))) (or_parts (l.change == m) (is_among m (numbers d)) gone).0
+    ∙ not_pending d m (or_parts (l.change == m) (is_among m (numbers d)) gone).1
 not_pending (deeds.Drop k ∷ d) m e = go (k == m) (not_pending d m e)
   where
     go : (b : Bool) → pending d m ≡ None → option_flatten (option_or (when b None) (latest (pending_said m) d)) ≡ None
@@ -135,11 +127,11 @@ pub not_landed : (d : List Deed) (m : ℕ) → is_among m (numbers d) ≡ false 
 not_landed [] m e = refl
 not_landed (deeds.Pend p ∷ d) m e =
     let gone = sym (in_inserted m p.change (numbers d)) ∙ e in
-    not_landed d m (or_right (p.change == m) (is_among m (numbers d)) gone)
+    not_landed d m (or_parts (p.change == m) (is_among m (numbers d)) gone).1
 not_landed (deeds.Land l ∷ d) m e =
     let gone = sym (in_inserted m l.change (numbers d)) ∙ e in
-    ap (λ (b : Bool). cond b (Some l) (landing d m)) (or_left (l.change == m) (is_among m (numbers d)) gone)
-    ∙ not_landed d m (or_right (l.change == m) (is_among m (numbers d)) gone)
+    ap (λ (b : Bool). cond b (Some l) (landing d m)) (or_parts (l.change == m) (is_among m (numbers d)) gone).0
+    ∙ not_landed d m (or_parts (l.change == m) (is_among m (numbers d)) gone).1
 not_landed (_ ∷ d) m e = not_landed d m e
 
 -- a number above all of them

@@ -3,6 +3,7 @@ use Rattle.std.proofs.Common.{◌≡◌, ℕ, Bool, true, false, List, [], ◌�
 use Rattle.std.specs.Prelude.{◌&&◌, filter_map, flat_map, is_none, map, option_map}
 use Rattle.std.specs.List.{cons_option, list_all}
 use Rattle.std.specs.Option.{option_to_list}
+use Rattle.std.proofs.lemmas.Bool.{and_parts}
 use Rattle.depot_rows.specs.depot_path.Path.{is_path, printed}
 use Rattle.depot_rows.specs.db_records.declared.record.Record.{Record}
 use Rattle.depot_rows.specs.db_records.declared.record.Record.TheVariants.{Working}
@@ -21,7 +22,6 @@ use Rattle.depot_rows.specs.Effects.{Follow}
 use Rattle.depot_rows.specs.declared.deed.Deed.TheVariants as dones
 use Rattle.depot_rows.specs.declared.deed.Opening.{Opening as DeedOpening}
 use Rattle.depot_rows.proofs.CutPairs.{opening_paths_are}
-use Rattle.depot_rows.proofs.Keys.{left-true, right-true}
 use Rattle.opening_reads.proofs.Opens.{row_opens}
 use Rattle.change_lists.specs.Saving.{in_other, moved_in, moved_row, not_open_in}
 
@@ -50,7 +50,7 @@ module _ (d : List Deed) (client path : List ℕ) (n : ℕ) (sound : IsSound d) 
     where
       go : (found : Option Opening) → opened d client path ≡ found → list_all has_path (option_to_list (option_map (in_other n) found)) ≡ true
       go None e = refl
-      go (Some o) e = ap (λ (b : Bool). b && true) (left-true (is_path o.path) _ (opening_paths_are [] d client path o sound.paths e))
+      go (Some o) e = ap (λ (b : Bool). b && true) (and_parts (is_path o.path) _ (opening_paths_are [] d client path o sound.paths e)).0
 
 abbrev pub of_path : Opening → Bool
 of_path o = is_path o.path
@@ -85,8 +85,8 @@ pub opens_follow : (e : List Deed) (openings : List DeedOpening) → list_all of
 opens_follow e [] are = tt
 opens_follow e (o ∷ openings) are = (
   refl,
-  left-true (is_path o.path) (list_all of_path (map opening_of openings)) are,
-  opens_follow (model.Open (opening_of o) ∷ e) openings (right-true (is_path o.path) (list_all of_path (map opening_of openings)) are),
+  (and_parts (is_path o.path) (list_all of_path (map opening_of openings)) are).0,
+  opens_follow (model.Open (opening_of o) ∷ e) openings (and_parts (is_path o.path) (list_all of_path (map opening_of openings)) are).1,
 )
 
 -- a file without a row isn't opened

@@ -3,6 +3,7 @@ use Rattle.std.proofs.Common.{◌≡◌, ℕ, Bool, true, false, List, [], ◌�
 use Rattle.std.specs.Prelude.{◌||◌, ◌&&◌, IsTrue}
 use Rattle.std.specs.List.{list_any, list_all}
 use Rattle.std.proofs.lemmas.Option.{same_Some}
+use Rattle.std.proofs.lemmas.Bool.{or_right}
 use Rattle.depot_rows.specs.db_records.declared.table.TableId.{TableId}
 use Rattle.depot_rows.specs.db_records.declared.table.TableId.TheVariants.{Working}
 use Rattle.depot_rows.specs.table_changes.Changed.{AllRows}
@@ -82,17 +83,13 @@ module _ (tables : List TableId) (without : is_in tables Working ≡ false) wher
       let parts = both_are (stays_in tables deed) (list_all (stays_in tables) deeds) e in
       λ i. one_stays deed parts.0 i || none_locks deeds parts.1 i
 
-or_true : (a b : Bool) → b ≡ true → (a || b) ≡ true
-or_true true b e = refl
-or_true false b e = e
-
 module _ (all : AllRows) (d : List model.Deed) (request : Request) where
   abbrev step_for : Result Command WordFault → ModelStep
   step_for asked = elim asked [ Err fault ↦ refuses (word_refusal fault) | Ok command ↦ whole_step d request command ]
 
   by_command : (command : Command) (dones : List Deed) → request.command ≡ Ok command → HasNeededBy all d (Ok command) → Follow d dones (step d request).deeds
       → IsTrue (list_any is_hold dones) → (written : Bool) → writes command Working ≡ written → HasRows all d Working
-  by_command command dones asked has follow held true e = has Working (or_true (reads command Working) (writes command Working) e)
+  by_command command dones asked has follow held true e = has Working (or_right (reads command Working) (writes command Working) e)
   by_command command dones asked has follow held false e =
       absurd (let one : true ≡ false = sym held ∙ lock_alike d dones (step d request).deeds follow
       ∙ none_locks (own_tables command).written e (step d request).deeds (step_stays d request command asked).each in cc)

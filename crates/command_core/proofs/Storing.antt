@@ -2,6 +2,7 @@
 use Rattle.std.proofs.Common.{◌≡◌, ℕ, true, false, List, [], ◌∷◌, refl}
 use Rattle.std.specs.Prelude.{◌&&◌}
 use Rattle.std.specs.List.{list_all}
+use Rattle.std.proofs.lemmas.Bool.{and_parts}
 use Rattle.depot_rows.specs.db_records.declared.table.TableId.{TableId}
 use Rattle.depot_rows.specs.db_records.declared.table.TableId.TheVariants as ids
 use Rattle.depot_rows.specs.table_changes.Changed.{AllRows}
@@ -16,7 +17,6 @@ use Rattle.depot_rows.specs.depot_model.declared.refusal.Refusal.{Refusal}
 use Rattle.depot_rows.specs.depot_model.declared.request.Request.{Request}
 use Rattle.depot_rows.specs.declared.deed.Deed.{Deed}
 use Rattle.depot_rows.specs.declared.deed.Deed.TheVariants as deeds
-use Rattle.depot_rows.proofs.Keys.{left-true, right-true}
 use Rattle.reply_rows.specs.Made.{told}
 use Rattle.reply_rows.proofs.Bare.{refuses_made}
 use Rattle.step_stores.specs.Stored.{AreStored, IsStoring, NothingLands}
@@ -33,15 +33,14 @@ refuses_storing all from d why = made_stores all from d (refuses why) (told (ref
 module _ (tables : List TableId) (without : is_in tables ids.Rev ≡ false) where
   lands_out : (l : model.Landing) → stays_in tables (model.Land l) ≡ true → ⊥
   lands_out l e =
-      let fourth = right-true (is_in tables ids.Change) (is_in tables ids.Rev && true)
-      (right-true (is_in tables ids.Integed) (is_in tables ids.Change && (is_in tables ids.Rev && true)) (right-true (is_in tables ids.Counter) (is_in tables ids.Integed && (is_in tables ids.Change && (is_in tables ids.Rev && true))) e)) in
-      let last = left-true (is_in tables ids.Rev) true fourth in
+      let fourth = (and_parts (is_in tables ids.Change) (is_in tables ids.Rev && true) (and_parts (is_in tables ids.Integed) (is_in tables ids.Change && (is_in tables ids.Rev && true)) (and_parts (is_in tables ids.Counter) (is_in tables ids.Integed && (is_in tables ids.Change && (is_in tables ids.Rev && true))) e).1).1).1 in
+      let last = (and_parts (is_in tables ids.Rev) true fourth).0 in
       absurd cc
 
   none_land : (deeds : List model.Deed) → list_all (stays_in tables) deeds ≡ true → NothingLands deeds
   none_land [] e = tt
-  none_land (model.Land l ∷ deeds) e = absurd (lands_out l (left-true (stays_in tables (model.Land l)) (list_all (stays_in tables) deeds) e))
-  none_land (deed ∷ deeds) e = none_land deeds (right-true (stays_in tables deed) (list_all (stays_in tables) deeds) e)
+  none_land (model.Land l ∷ deeds) e = absurd (lands_out l (and_parts (stays_in tables (model.Land l)) (list_all (stays_in tables) deeds) e).0)
+  none_land (deed ∷ deeds) e = none_land deeds (and_parts (stays_in tables deed) (list_all (stays_in tables) deeds) e).1
 
 lands_nothing : (command : Command) → is_submit command ≡ false → writes command ids.Rev ≡ false
 lands_nothing (SubmitChange n) e = absurd cc

@@ -4,6 +4,7 @@ use Rattle.std.specs.Prelude.{Contains, IfSome, filter, flat_map, is_none, is_ok
 use Rattle.std.specs.List.{list_all}
 use Rattle.std.specs.Option.{option_flatten}
 use Rattle.std.proofs.lemmas.List.Folds.{list_all-append}
+use Rattle.std.proofs.lemmas.Bool.{and_from, and_parts}
 use Rattle.depot_rows.specs.protect_table.Line.{table_of as protects_of}
 use Rattle.depot_rows.specs.depot_path.Path.{is_path}
 use Rattle.depot_rows.specs.spec_form.Form.{FormValue}
@@ -16,8 +17,6 @@ use Rattle.depot_rows.specs.depot_model.Numbers.{landings, landing}
 use Rattle.depot_rows.specs.depot_model.Records.{landed_record}
 use Rattle.depot_rows.specs.depot_model.Rules.{LandAlike, NotBoth, IsSpelled, stay_landed, has_paths, entry_paths, opening_paths, path_or_none, has_its_content, have_their_contents}
 use Rattle.depot_rows.proofs.Cutting.{cut_more, cut_silent, left, pending_cut, landing_cut, guard_cut, spec_cut, shelf_cut, kept_entries}
-use Rattle.depot_rows.proofs.Keys.{left-true, right-true}
-use Rattle.depot_facts.proofs.Tests.{both_true}
 
 -- an element of a list that is mapped is that of an element
 mapped_has : {A B : Type 0} (f : A → B) (xs : List A) (y : B) → Contains (map f xs) y → (x : A) × Contains xs x × (f x ≡ y)
@@ -65,9 +64,9 @@ module _ (rules : List FilterRule) where
   pub stay_cut : (d : List Deed) → stay_landed d ≡ true → stay_landed (cut rules d) ≡ true
   stay_cut [] h = refl
   stay_cut (Pend p ∷ d) h =
-      both_true (is_none (landing (cut rules d) p.change)) (stay_landed (cut rules d))
-      (ap not (landed_cut d p.change) ∙ left-true (is_none (landing d p.change)) (stay_landed d) h)
-      (stay_cut d (right-true (is_none (landing d p.change)) (stay_landed d) h))
+      and_from (is_none (landing (cut rules d) p.change)) (stay_landed (cut rules d))
+      (ap not (landed_cut d p.change) ∙ (and_parts (is_none (landing d p.change)) (stay_landed d) h).0)
+      (stay_cut d (and_parts (is_none (landing d p.change)) (stay_landed d) h).1)
   stay_cut (deed ∷ d) h = cut_silent rules stay_landed deed d refl ∙ stay_cut d h
 
   -- ---- lines and forms
@@ -86,13 +85,13 @@ module _ (rules : List FilterRule) where
   -- ---- paths
 
   both_paths : (a b : List (List ℕ)) → list_all is_path a ≡ true → list_all is_path b ≡ true → list_all is_path (a ++ b) ≡ true
-  both_paths a b h k = list_all-append is_path a b ∙ both_true (list_all is_path a) (list_all is_path b) h k
+  both_paths a b h k = list_all-append is_path a b ∙ and_from (list_all is_path a) (list_all is_path b) h k
 
   left_paths : (a b : List (List ℕ)) → list_all is_path (a ++ b) ≡ true → list_all is_path a ≡ true
-  left_paths a b h = left-true (list_all is_path a) (list_all is_path b) (sym (list_all-append is_path a b) ∙ h)
+  left_paths a b h = (and_parts (list_all is_path a) (list_all is_path b) (sym (list_all-append is_path a b) ∙ h)).0
 
   right_paths : (a b : List (List ℕ)) → list_all is_path (a ++ b) ≡ true → list_all is_path b ≡ true
-  right_paths a b h = right-true (list_all is_path a) (list_all is_path b) (sym (list_all-append is_path a b) ∙ h)
+  right_paths a b h = (and_parts (list_all is_path a) (list_all is_path b) (sym (list_all-append is_path a b) ∙ h)).1
 
   froms : List Credit → List (List ℕ)
   froms cs = map (λ (c : Credit). c.from) cs
@@ -100,17 +99,17 @@ module _ (rules : List FilterRule) where
   credits_paths : (cs : List Credit) → list_all is_path (map (λ (c : Credit). c.from) cs) ≡ true
       → list_all is_path (map (λ (c : Credit). c.from) (filter (λ (c : Credit). is_inside rules c.from) cs)) ≡ true
   credits_paths [] h = refl
-  credits_paths (c ∷ cs) h = go (is_inside rules c.from) (credits_paths cs (right-true (is_path c.from) (list_all is_path (map (λ (c : Credit). c.from) cs)) h))
+  credits_paths (c ∷ cs) h = go (is_inside rules c.from) (credits_paths cs (and_parts (is_path c.from) (list_all is_path (map (λ (c : Credit). c.from) cs)) h).1)
     where
       go : (b : Bool) → list_all is_path (map (λ (c : Credit). c.from) (filter (λ (c : Credit). is_inside rules c.from) cs)) ≡ true
           → list_all is_path (map (λ (c : Credit). c.from) (cond b (c ∷ filter (λ (c : Credit). is_inside rules c.from) cs) (filter (λ (c : Credit). is_inside rules c.from) cs))) ≡ true
-      go true rest = both_true (is_path c.from) _ (left-true (is_path c.from) (list_all is_path (map (λ (c : Credit). c.from) cs)) h) rest
+      go true rest = and_from (is_path c.from) _ (and_parts (is_path c.from) (list_all is_path (map (λ (c : Credit). c.from) cs)) h).0 rest
       go false rest = rest
 
   entry_has : (e : Entry) → list_all is_path (entry_paths e) ≡ true → list_all is_path (entry_paths (cut_entry rules e)) ≡ true
   entry_has e h =
-      let rest : list_all is_path (path_or_none e.moved ++ map (λ (c : Credit). c.from) e.credits) ≡ true = right-true (is_path e.path) _ h in
-      both_true (is_path e.path) _ (left-true (is_path e.path) _ h)
+      let rest : list_all is_path (path_or_none e.moved ++ map (λ (c : Credit). c.from) e.credits) ≡ true = (and_parts (is_path e.path) _ h).1 in
+      and_from (is_path e.path) _ (and_parts (is_path e.path) _ h).0
       (both_paths (path_or_none e.moved) (map (λ (c : Credit). c.from) (filter (λ (c : Credit). is_inside rules c.from) e.credits))
       (left_paths (path_or_none e.moved) (map (λ (c : Credit). c.from) e.credits) rest)
       (credits_paths e.credits (right_paths (path_or_none e.moved) (map (λ (c : Credit). c.from) e.credits) rest)))
@@ -126,8 +125,8 @@ module _ (rules : List FilterRule) where
 
   opening_has : (o : Opening) → list_all is_path (opening_paths o) ≡ true → list_all is_path (opening_paths (cut_opening rules o)) ≡ true
   opening_has o h =
-      let rest : list_all is_path (path_or_none o.moved ++ path_or_none (option_map (λ (s : Source). s.path) o.source)) ≡ true = right-true (is_path o.path) _ h in
-      both_true (is_path o.path) _ (left-true (is_path o.path) _ h)
+      let rest : list_all is_path (path_or_none o.moved ++ path_or_none (option_map (λ (s : Source). s.path) o.source)) ≡ true = (and_parts (is_path o.path) _ h).1 in
+      and_from (is_path o.path) _ (and_parts (is_path o.path) _ h).0
       (both_paths (path_or_none o.moved) _ (left_paths (path_or_none o.moved) _ rest) (source o.source (right_paths (path_or_none o.moved) _ rest)))
     where
       source : (s : Option Source) → list_all is_path (path_or_none (option_map (λ (s : Source). s.path) s)) ≡ true
@@ -147,27 +146,27 @@ module _ (rules : List FilterRule) where
   pub paths_cut : (d : List Deed) → list_all has_paths d ≡ true → list_all has_paths (cut rules d) ≡ true
   paths_cut [] h = refl
   paths_cut (deed ∷ d) h =
-      let rest : list_all has_paths (cut rules d) ≡ true = paths_cut d (right-true (has_paths deed) (list_all has_paths d) h) in
+      let rest : list_all has_paths (cut rules d) ≡ true = paths_cut d (and_parts (has_paths deed) (list_all has_paths d) h).1 in
       cut_more rules (list_all has_paths) deed d true
-      (λ e. both_true (has_paths (left rules deed)) (list_all has_paths (cut rules d)) (left_has deed (left-true (has_paths deed) (list_all has_paths d) h)) rest) (λ e. rest)
+      (λ e. and_from (has_paths (left rules deed)) (list_all has_paths (cut rules d)) (left_has deed (and_parts (has_paths deed) (list_all has_paths d) h).0) rest) (λ e. rest)
 
   -- ---- contents
 
   entries_whole : (es : List Entry) → list_all has_its_content es ≡ true → list_all has_its_content (map (cut_entry rules) (kept_entries rules es)) ≡ true
   entries_whole [] h = refl
-  entries_whole (e ∷ es) h = go (is_inside rules e.path) (entries_whole es (right-true (has_its_content e) (list_all has_its_content es) h))
+  entries_whole (e ∷ es) h = go (is_inside rules e.path) (entries_whole es (and_parts (has_its_content e) (list_all has_its_content es) h).1)
     where
       go : (b : Bool) → list_all has_its_content (map (cut_entry rules) (kept_entries rules es)) ≡ true
           → list_all has_its_content (map (cut_entry rules) (cond b (e ∷ kept_entries rules es) (kept_entries rules es))) ≡ true
-      go true rest = both_true (has_its_content e) _ (left-true (has_its_content e) (list_all has_its_content es) h) rest
+      go true rest = and_from (has_its_content e) _ (and_parts (has_its_content e) (list_all has_its_content es) h).0 rest
       go false rest = rest
 
   landings_whole : (ls : List Landing) → list_all have_their_contents ls ≡ true → list_all have_their_contents (map (cut_landing rules) ls) ≡ true
   landings_whole [] h = refl
   landings_whole (l ∷ ls) h =
-      both_true (have_their_contents (cut_landing rules l)) _
-      (entries_whole l.entries (left-true (have_their_contents l) (list_all have_their_contents ls) h))
-      (landings_whole ls (right-true (have_their_contents l) (list_all have_their_contents ls) h))
+      and_from (have_their_contents (cut_landing rules l)) _
+      (entries_whole l.entries (and_parts (have_their_contents l) (list_all have_their_contents ls) h).0)
+      (landings_whole ls (and_parts (have_their_contents l) (list_all have_their_contents ls) h).1)
 
   pub contents_cut : (d : List Deed) → list_all have_their_contents (landings d) ≡ true → list_all have_their_contents (landings (cut rules d)) ≡ true
   contents_cut d h = ap (list_all have_their_contents) (landings_cut d) ∙ landings_whole (landings d) h

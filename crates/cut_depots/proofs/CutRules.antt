@@ -2,7 +2,7 @@
 use Rattle.std.proofs.Common.{◌≡◌, ◌≤◌, ◌<◌, ◌⊎◌, ℕ, suc, Bool, true, false, cond, List, [], Option, Some, None, inl, inr, refl, sym, ap, ◌∙◌, subst}
 use Rattle.std.specs.Prelude.{◌&&◌, not, codes, nat_le, IfSome, IsSome, IsSomeAnd, is_some, option_map}
 use Rattle.std.specs.List.{list_all}
-use Rattle.std.proofs.lemmas.Bool.{true≢false}
+use Rattle.std.proofs.lemmas.Bool.{true≢false, and_from, and_parts}
 use Rattle.depot_rows.specs.depot_path.Bytes.{same}
 use Rattle.depot_rows.specs.db_records.Record.{key_of}
 use Rattle.depot_rows.specs.db_records.declared.key.Key.{Key}
@@ -20,8 +20,6 @@ use Rattle.depot_rows.specs.depot_model.Rows.{how_word}
 use Rattle.depot_rows.specs.depot_model.Rules.{Rows, KeepRules, IsRow, IsForm, IsFix, IsBase, IsSource, IsCredit, IsCredited, IsPaired, IsSubmitted, IsPendingOf, IsOpenIn, IsMadeIn, HasRev, HasRevs, top_in, number_in, value_in, value_of, change_of, lock_of, is_on_fix, has_fix}
 use Rattle.depot_rows.specs.depot_model.declared.filter.FilterRule.{FilterRule}
 use Rattle.depot_rows.specs.Cut.{is_text_inside, is_left, cut_row, cut_rows}
-use Rattle.depot_rows.proofs.Keys.{left-true, right-true}
-use Rattle.depot_facts.proofs.Tests.{both_true}
 use Rattle.cut_depots.proofs.Keyed.{HasKey}
 
 -- ---- what a cut row tells
@@ -156,7 +154,7 @@ module _ (rules : List FilterRule) (before after : Rows) (cuts : (q : Key) → a
 
   module _ (r : IntegedRecord) (to : is_text_inside rules r.to_file ≡ true) (from : is_text_inside rules r.from_file ≡ true) where
     both : (is_text_inside rules r.from_file && is_text_inside rules r.to_file) ≡ true
-    both = both_true (is_text_inside rules r.from_file) (is_text_inside rules r.to_file) from to
+    both = and_from (is_text_inside rules r.from_file) (is_text_inside rules r.to_file) from to
 
     credit_there : (how : How) → IsCredit before r how → IsCredit after r how
     credit_there how h = (
@@ -221,12 +219,12 @@ module _ (rules : List FilterRule) (before after : Rows) (cuts : (q : Key) → a
   row_there (records.Have r) left h = (form_there (codes "client") r.client refl h.0, h.1, rev_there r.path left r.rev h.2)
   row_there (records.Label r) left h = (form_there (codes "label") r.label refl h.0, h.1, rev_there r.path left r.rev h.2)
   row_there (records.Integed r) left h =
-      let to : is_text_inside rules r.to_file ≡ true = left-true (is_text_inside rules r.to_file) (is_text_inside rules r.from_file) left in
-      let from : is_text_inside rules r.from_file ≡ true = right-true (is_text_inside rules r.to_file) (is_text_inside rules r.from_file) left in
+      let to : is_text_inside rules r.to_file ≡ true = (and_parts (is_text_inside rules r.to_file) (is_text_inside rules r.from_file) left).0 in
+      let from : is_text_inside rules r.from_file ≡ true = (and_parts (is_text_inside rules r.to_file) (is_text_inside rules r.from_file) left).1 in
       (h.0, h.1, revs_there r.from_file from r.start_from r.end_from h.2, revs_there r.to_file to r.start_to r.end_to h.3, paired_there r to from h.4)
   row_there (records.Resolve r) left h =
-      let path : is_text_inside rules r.path ≡ true = left-true (is_text_inside rules r.path) (is_text_inside rules r.from) left in
-      let from : is_text_inside rules r.from ≡ true = right-true (is_text_inside rules r.path) (is_text_inside rules r.from) left in
+      let path : is_text_inside rules r.path ≡ true = (and_parts (is_text_inside rules r.path) (is_text_inside rules r.from) left).0 in
+      let from : is_text_inside rules r.from ≡ true = (and_parts (is_text_inside rules r.path) (is_text_inside rules r.from) left).1 in
       (h.0, h.1, revs_there r.from from r.first r.last h.2, h.3, form_there (codes "client") r.client refl h.4, there (keys.Working r.path r.client) path h.5)
   row_there (records.Working r) left h = opened_row r left h
   row_there (records.Change r) left h = h

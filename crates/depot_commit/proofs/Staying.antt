@@ -3,6 +3,7 @@ use Rattle.std.proofs.Common.{◌≡◌, ℕ, zero, suc, Bool, true, false, ◌&
 use Rattle.std.specs.Prelude.{slice_get, flat_map, option_map, option_and_then}
 use Rattle.std.specs.List.{list_all}
 use Rattle.std.proofs.lemmas.Option.{same_Some}
+use Rattle.std.proofs.lemmas.Bool.{and_parts}
 use Rattle.depot_rows.specs.depot_path.Path.{printed, is_path}
 use Rattle.depot_rows.specs.db_records.declared.key.Key.TheVariants as keys
 use Rattle.depot_rows.specs.db_records.declared.record.Record.{Record}
@@ -15,7 +16,6 @@ use Rattle.depot_rows.specs.depot_model.Records.{record_of, rev_record, unplaced
 use Rattle.depot_rows.specs.depot_model.Revisions.{Revision, revision, revisions, revision_in, entries_at}
 use Rattle.depot_rows.specs.depot_model.Rules.{IsSound, has_paths}
 use Rattle.depot_rows.specs.depot_model.Step.{after}
-use Rattle.depot_rows.proofs.Keys.{left-true, right-true}
 use Rattle.depot_rows.proofs.Spelled.{at_path-here}
 use Rattle.depot_rows.specs.Standing.{HasRows, row_in}
 use Rattle.depot_facts.specs.Contents.{SameContents}
@@ -71,8 +71,8 @@ of_path d e path is alike (r ∷ rest) are =
 front_all : (test : List ℕ → Bool) (one other : List (List ℕ)) → list_all test (one ++ other) ≡ true → (list_all test one ≡ true) × (list_all test other ≡ true)
 front_all test [] other all = (refl, all)
 front_all test (x ∷ one) other all =
-    let rest = front_all test one other (right-true (test x) (list_all test (one ++ other)) all) in
-    (ap (λ (b : Bool). b && list_all test one) (left-true (test x) (list_all test (one ++ other)) all) ∙ rest.0, rest.1)
+    let rest = front_all test one other (and_parts (test x) (list_all test (one ++ other)) all).1 in
+    (ap (λ (b : Bool). b && list_all test one) (and_parts (test x) (list_all test (one ++ other)) all).0 ∙ rest.0, rest.1)
 
 none_landed : (path : List ℕ) → is_path path ≡ false → (l : Landing) → has_paths (Land l) ≡ true → entries_at path l ≡ []
 none_landed path no_path l all = ap (map (λ (e : Entry). let r : Revision = record { landing = l; entry = e } in r)) (no_entry path no_path l.entries all)
@@ -80,9 +80,9 @@ none_landed path no_path l all = ap (map (λ (e : Entry). let r : Revision = rec
 no_revisions : (path : List ℕ) → is_path path ≡ false → (d : List Deed) → list_all has_paths d ≡ true → revisions d path ≡ []
 no_revisions path no_path [] all = refl
 no_revisions path no_path (Land l ∷ d) all =
-    ap (λ (r : List Revision). r ++ entries_at path l) (no_revisions path no_path d (right-true (has_paths (Land l)) (list_all has_paths d) all))
-    ∙ none_landed path no_path l (left-true (has_paths (Land l)) (list_all has_paths d) all)
-no_revisions path no_path (deed ∷ d) all = no_revisions path no_path d (right-true (has_paths deed) (list_all has_paths d) all)
+    ap (λ (r : List Revision). r ++ entries_at path l) (no_revisions path no_path d (and_parts (has_paths (Land l)) (list_all has_paths d) all).1)
+    ∙ none_landed path no_path l (and_parts (has_paths (Land l)) (list_all has_paths d) all).0
+no_revisions path no_path (deed ∷ d) all = no_revisions path no_path d (and_parts (has_paths deed) (list_all has_paths d) all).1
 
 -- ---- contents
 

@@ -2,7 +2,7 @@
 use Rattle.std.proofs.Common.{◌≡◌, ◌<◌, ◌⊎◌, inl, inr, ℕ, Bool, true, false, List, [], ◌∷◌, map, Option, Some, refl, sym, ap, subst, ◌∙◌, arith}
 use Rattle.std.specs.Prelude.{if◌then◌else◌, filter, flat_map, is_some, IsSome, option_map}
 use Rattle.std.specs.List.{list_any, list_all}
-use Rattle.std.proofs.lemmas.Bool.{true≢false}
+use Rattle.std.proofs.lemmas.Bool.{true≢false, and_parts}
 use Rattle.depot_rows.specs.depot_path.Bytes.{same}
 use Rattle.depot_rows.specs.depot_path.Path.{printed, is_path}
 use Rattle.depot_rows.specs.db_records.Record.{key_of}
@@ -17,7 +17,7 @@ use Rattle.depot_rows.specs.depot_model.Revisions.{Revision, revisions, revision
 use Rattle.depot_rows.specs.depot_model.Rows.{how_word}
 use Rattle.depot_rows.specs.depot_model.Rules.{IsSound, change_of, has_paths, entry_paths, path_or_none}
 use Rattle.depot_rows.proofs.Entries.{In}
-use Rattle.depot_rows.proofs.Keys.{at-is, at-self, same-is, same-self, left-true, right-true}
+use Rattle.depot_rows.proofs.Keys.{at-is, at-self, same-is, same-self}
 use Rattle.depot_rows.proofs.Spelled.{at_path-here}
 use Rattle.depot_facts.proofs.Listed.{all_in, append_left, append_right, finds, flat_in, found_in, in_append, in_flat, map_in}
 
@@ -186,11 +186,11 @@ told_before d l z t = record {
 pub tells : (d : List Deed) → list_all has_paths d ≡ true → (z : IntegedRecord) → In (integrations d) z → is_how z.how ≡ true → Tells d z
 tells [] paths z h how = absurd h
 tells (Land l ∷ d) paths z h how = elim (in_append (pairs_of d l) (integrations d) z h) [
-  | inl k ↦ told_here d l (left-true (has_paths (Land l)) (list_all has_paths d) paths) z k how
-  | inr k ↦ told_before d l z (tells d (right-true (has_paths (Land l)) (list_all has_paths d) paths) z k how)
+  | inl k ↦ told_here d l (and_parts (has_paths (Land l)) (list_all has_paths d) paths).0 z k how
+  | inr k ↦ told_before d l z (tells d (and_parts (has_paths (Land l)) (list_all has_paths d) paths).1 z k how)
 ]
 tells (deed ∷ d) paths z h how =
-    let t = tells d (right-true (has_paths deed) (list_all has_paths d) paths) z h how in
+    let t = tells d (and_parts (has_paths deed) (list_all has_paths d) paths).1 z h how in
     record { path = t.path; made = t.made; credit = t.credit; there = t.there; listed = t.listed; of = t.of }
 
 -- each credit of a revision has its record
@@ -230,12 +230,12 @@ pub writes : (d : List Deed) → list_all has_paths d ≡ true → (path : List 
     → Written d path r c
 writes [] paths path r c h listed = absurd h
 writes (Land l ∷ d) paths path r c h listed = elim (in_append (revisions d path) (entries_at path l) r h) [
-  | inl k ↦ (let w = writes d (right-true (has_paths (Land l)) (list_all has_paths d) paths) path r c k listed in
+  | inl k ↦ (let w = writes d (and_parts (has_paths (Land l)) (list_all has_paths d) paths).1 path r c k listed in
       record { written = w.written; there = append_right (pairs_of d l) (integrations d) w.written w.there; word = w.word; of = w.of })
-  | inr k ↦ written_here d l (left-true (has_paths (Land l)) (list_all has_paths d) paths) path r c k listed
+  | inr k ↦ written_here d l (and_parts (has_paths (Land l)) (list_all has_paths d) paths).0 path r c k listed
 ]
 writes (deed ∷ d) paths path r c h listed =
-    let w = writes d (right-true (has_paths deed) (list_all has_paths d) paths) path r c h listed in
+    let w = writes d (and_parts (has_paths deed) (list_all has_paths d) paths).1 path r c h listed in
     record { written = w.written; there = w.there; word = w.word; of = w.of }
 
 -- ---- the change of a revision

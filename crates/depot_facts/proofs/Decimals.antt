@@ -5,6 +5,7 @@ use Rattle.std.specs.Fmt.{digits, digits_onto, digit_glyph}
 use Rattle.std.specs.List.{list_all}
 use Rattle.std.proofs.lemmas.Bool.Decides.{nat_tests}
 use Rattle.std.proofs.lemmas.Fmt.{decimal_by_steps}
+use Rattle.std.proofs.lemmas.Bool.{and_from, and_parts}
 use Rattle.depot_rows.specs.depot_path.Bytes.{same, is_digit, is_among}
 use Rattle.depot_rows.specs.depot_path.Digits.{number_of, is_digits}
 use Rattle.depot_rows.specs.depot_path.Utf8.{is_utf8}
@@ -12,8 +13,7 @@ use Rattle.depot_rows.proofs.spec_form.Utf8.{ascii-cons}
 use Rattle.depot_rows.specs.spec_form.Form.{is_value}
 use Rattle.depot_rows.specs.spec_form.Texts.{trimmed_start, is_blank}
 use Rattle.depot_rows.specs.depot_model.Numerals.{is_numeral}
-use Rattle.depot_rows.proofs.Keys.{same-is, same-self, left-true, right-true, number-is}
-use Rattle.depot_facts.proofs.Tests.{both_true}
+use Rattle.depot_rows.proofs.Keys.{same-is, same-self, number-is}
 
 -- ---- digits that write a number
 
@@ -26,12 +26,12 @@ a_digit : (n : ℕ) → n < 10 → is_digit (48 + n) ≡ true
 a_digit n h = grind (arith, nat_tests)
 
 one : (n : ℕ) → n < 10 → Writes n ((48 + n) ∷ [])
-one n h = record { some = refl; digits = both_true (is_digit (48 + n)) true (a_digit n h) refl; number = omega arith }
+one n h = record { some = refl; digits = and_from (is_digit (48 + n)) true (a_digit n h) refl; number = omega arith }
 
 snoc_all : (ds : List ℕ) (x : ℕ) → list_all is_digit ds ≡ true → is_digit x ≡ true → list_all is_digit (ds ++ x ∷ []) ≡ true
-snoc_all [] x e f = both_true (is_digit x) true f refl
-snoc_all (d ∷ ds) x e f = both_true (is_digit d) (list_all is_digit (ds ++ x ∷ [])) (left-true (is_digit d) (list_all is_digit ds) e)
-    (snoc_all ds x (right-true (is_digit d) (list_all is_digit ds) e) f)
+snoc_all [] x e f = and_from (is_digit x) true f refl
+snoc_all (d ∷ ds) x e f = and_from (is_digit d) (list_all is_digit (ds ++ x ∷ [])) (and_parts (is_digit d) (list_all is_digit ds) e).0
+    (snoc_all ds x (and_parts (is_digit d) (list_all is_digit ds) e).1 f)
 
 snoc_fold : (a : ℕ) (ds : List ℕ) (x : ℕ)
     → fold (λ n digit. n * 10 + (digit - 0x30)) a (ds ++ x ∷ []) ≡ fold (λ n digit. n * 10 + (digit - 0x30)) a ds * 10 + (x - 0x30)
@@ -61,7 +61,7 @@ written n small = decimal_by_steps Writes one more n small
 pub numeral_decimal : (n : ℕ) → n < 2 ^ 64 → is_numeral (decimal n) ≡ true
 numeral_decimal n small =
     let w = written n small in
-    both_true (is_digits (decimal n)) (same (decimal (number_of (decimal n))) (decimal n)) (both_true _ _ w.some w.digits)
+    and_from (is_digits (decimal n)) (same (decimal (number_of (decimal n))) (decimal n)) (and_from _ _ w.some w.digits)
     (ap (λ (m : ℕ). same (decimal m) (decimal n)) w.number ∙ same-self (decimal n))
 
 pub number_decimal : (n : ℕ) → n < 2 ^ 64 → number_of (decimal n) ≡ n
@@ -77,7 +77,7 @@ onto_digits zero n acc e = e
 onto_digits (suc k) n acc e = go (n / 10 == 0) (onto_digits k (n / 10) (digit_glyph false (n % 10) ∷ acc) here)
   where
     here : list_all is_digit (digit_glyph false (n % 10) ∷ acc) ≡ true
-    here = both_true (is_digit (digit_glyph false (n % 10))) (list_all is_digit acc) (glyph_is (n % 10) (omega arith)) e
+    here = and_from (is_digit (digit_glyph false (n % 10))) (list_all is_digit acc) (glyph_is (n % 10) (omega arith)) e
 
     go : (b : Bool) → list_all is_digit (digits_onto k 10 false (n / 10) (digit_glyph false (n % 10) ∷ acc)) ≡ true
         → list_all is_digit (if b then digit_glyph false (n % 10) ∷ acc else digits_onto k 10 false (n / 10) (digit_glyph false (n % 10) ∷ acc)) ≡ true
@@ -92,14 +92,14 @@ decimal_digits n = onto_digits 64 n [] refl
 
 pub digits_utf8 : (ds : List ℕ) → list_all is_digit ds ≡ true → is_utf8 ds ≡ true
 digits_utf8 [] e = refl
-digits_utf8 (d ∷ ds) e = ascii-cons d ds (small d (left-true (is_digit d) (list_all is_digit ds) e)) ∙ digits_utf8 ds (right-true (is_digit d) (list_all is_digit ds) e)
+digits_utf8 (d ∷ ds) e = ascii-cons d ds (small d (and_parts (is_digit d) (list_all is_digit ds) e).0) ∙ digits_utf8 ds (and_parts (is_digit d) (list_all is_digit ds) e).1
   where
     small : (x : ℕ) → is_digit x ≡ true → x < 0x80
     small x h = grind (arith, nat_tests)
 
 pub digits_without : (c : ℕ) → is_digit c ≡ false → (ds : List ℕ) → list_all is_digit ds ≡ true → is_among ds c ≡ false
 digits_without c other [] e = refl
-digits_without c other (d ∷ ds) e = go (d == c) refl (left-true (is_digit d) (list_all is_digit ds) e) (digits_without c other ds (right-true (is_digit d) (list_all is_digit ds) e))
+digits_without c other (d ∷ ds) e = go (d == c) refl (and_parts (is_digit d) (list_all is_digit ds) e).0 (digits_without c other ds (and_parts (is_digit d) (list_all is_digit ds) e).1)
   where
     go : (b : Bool) → (d == c) ≡ b → is_digit d ≡ true → is_among ds c ≡ false → (b || is_among ds c) ≡ false
     go true h k later = absurd (let f : is_digit d ≡ false = ap is_digit (number-is d c h) ∙ other in cc)
@@ -108,7 +108,7 @@ digits_without c other (d ∷ ds) e = go (d == c) refl (left-true (is_digit d) (
 -- they begin with no blank
 pub digits_trimmed : (ds : List ℕ) → list_all is_digit ds ≡ true → trimmed_start ds ≡ ds
 digits_trimmed [] all = refl
-digits_trimmed (d ∷ ds) all = go (is_blank d) (no_blank d (left-true (is_digit d) (list_all is_digit ds) all))
+digits_trimmed (d ∷ ds) all = go (is_blank d) (no_blank d (and_parts (is_digit d) (list_all is_digit ds) all).0)
   where
     no_blank : (x : ℕ) → is_digit x ≡ true → is_blank x ≡ false
     no_blank x h = grind (arith, nat_tests)
@@ -120,13 +120,13 @@ digits_trimmed (d ∷ ds) all = go (is_blank d) (no_blank d (left-true (is_digit
 pub value_digits : (ds : List ℕ) → list_all is_digit ds ≡ true → is_value ds ≡ true
 value_digits ds all =
     let three : same (trimmed_start ds) ds ≡ true = ap (λ (t : List ℕ). same t ds) (digits_trimmed ds all) ∙ same-self ds in
-    both_true _ _ (both_true (is_utf8 ds) _ (digits_utf8 ds all) (ap not (digits_without 0x0A refl ds all))) three
+    and_from _ _ (and_from (is_utf8 ds) _ (digits_utf8 ds all) (ap not (digits_without 0x0A refl ds all))) three
 
 -- ---- names that end with a blank and digits
 
 no_blank_in : (xs es : List ℕ) → list_all is_digit (xs ++ 0x20 ∷ es) ≡ true → ⊥
 no_blank_in [] es e = absurd cc
-no_blank_in (x ∷ xs) es e = no_blank_in xs es (right-true (is_digit x) (list_all is_digit (xs ++ 0x20 ∷ es)) e)
+no_blank_in (x ∷ xs) es e = no_blank_in xs es (and_parts (is_digit x) (list_all is_digit (xs ++ 0x20 ∷ es)) e).1
 
 pub parts_is : (xs ys ds es : List ℕ) → list_all is_digit ds ≡ true → list_all is_digit es ≡ true → xs ++ 0x20 ∷ ds ≡ ys ++ 0x20 ∷ es → (xs ≡ ys) × (ds ≡ es)
 parts_is [] [] ds es p q e = (refl, cc)
@@ -145,20 +145,20 @@ pub parts_are : (xs ys a b : List ℕ) → list_all is_digit xs ≡ true → lis
 parts_are [] [] a b p q e = (refl, cc)
 parts_are [] (y ∷ ys) a b p q e =
     let one : 0x20 ≡ y = cc in
-    absurd (let no : true ≡ false = sym (left-true (is_digit y) (list_all is_digit ys) q) ∙ ap is_digit (sym one) in cc)
+    absurd (let no : true ≡ false = sym (and_parts (is_digit y) (list_all is_digit ys) q).0 ∙ ap is_digit (sym one) in cc)
 parts_are (x ∷ xs) [] a b p q e =
     let one : x ≡ 0x20 = cc in
-    absurd (let no : true ≡ false = sym (left-true (is_digit x) (list_all is_digit xs) p) ∙ ap is_digit one in cc)
+    absurd (let no : true ≡ false = sym (and_parts (is_digit x) (list_all is_digit xs) p).0 ∙ ap is_digit one in cc)
 parts_are (x ∷ xs) (y ∷ ys) a b p q e =
     let one : x ≡ y = cc in
     let more : xs ++ 0x20 ∷ a ≡ ys ++ 0x20 ∷ b = cc in
-    let rest = parts_are xs ys a b (right-true (is_digit x) (list_all is_digit xs) p) (right-true (is_digit y) (list_all is_digit ys) q) more in
+    let rest = parts_are xs ys a b (and_parts (is_digit x) (list_all is_digit xs) p).1 (and_parts (is_digit y) (list_all is_digit ys) q).1 more in
     ((λ i. one i ∷ rest.0 i), rest.1)
 
 -- ---- numerals
 
 pub numeral_is : (text : List ℕ) → is_numeral text ≡ true → text ≡ decimal (number_of text)
-numeral_is text e = sym (same-is (decimal (number_of text)) text (right-true (is_digits text) _ e))
+numeral_is text e = sym (same-is (decimal (number_of text)) text (and_parts (is_digits text) _ e).1)
 
 pub numeral_digits : (text : List ℕ) → is_numeral text ≡ true → list_all is_digit text ≡ true
-numeral_digits text e = right-true (nat_le 1 (length text)) (list_all is_digit text) (left-true (is_digits text) _ e)
+numeral_digits text e = (and_parts (nat_le 1 (length text)) (list_all is_digit text) (and_parts (is_digits text) _ e).0).1

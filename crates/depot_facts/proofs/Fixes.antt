@@ -2,6 +2,7 @@
 use Rattle.std.proofs.Common.{◌≡◌, ◌≤◌, ℕ, Bool, true, false, List, [], ◌∷◌, ◌++◌, Option, Some, None, refl, sym, ap, subst, ◌∙◌, arith}
 use Rattle.std.specs.Prelude.{◌==◌, nat_le, IsSome, is_some, option_map, flat_map, codes, decimal}
 use Rattle.std.specs.List.{filter_map}
+use Rattle.std.proofs.lemmas.Bool.{and_parts}
 use Rattle.depot_rows.specs.depot_path.Digits.{number_of}
 use Rattle.depot_rows.specs.db_records.declared.record.Record.TheVariants as records
 use Rattle.depot_rows.specs.spec_form.Form.{FormValue}
@@ -18,7 +19,7 @@ use Rattle.depot_rows.specs.depot_model.Shelves.{is_of_change}
 use Rattle.depot_rows.specs.depot_model.Values.{value_of}
 use Rattle.depot_rows.proofs.ChangeCounter.{top_value}
 use Rattle.depot_rows.proofs.Entries.{In}
-use Rattle.depot_rows.proofs.Keys.{left-true, right-true, same-is}
+use Rattle.depot_rows.proofs.Keys.{same-is}
 use Rattle.depot_facts.specs.Fields.{number_of_field}
 use Rattle.depot_facts.proofs.Found.{saved_fix, spec_names, spec_value}
 use Rattle.depot_facts.proofs.Listed.{filter_in, filter_map_in, in_filter, in_filter_map}
@@ -46,7 +47,7 @@ module _ (d : List Deed) (sound : IsSound d) where
   fix_tells name form e = record {
     named = rule.named ∙ (λ i. v (codes "Job") i ++ 0x20 ∷ v (codes "Change") i);
     job_there = subst (λ (x : List ℕ). IsSome (job d x)) (v (codes "Job")) (saved (spec d JobForm (value_in FixShape (codes "Job") (printed_form form))) rule.job);
-    numeral = ap is_numeral (sym (v (codes "Change"))) ∙ left-true (is_numeral change) (nat_le (number_of change) (top_in (record_of d))) rule.change;
+    numeral = ap is_numeral (sym (v (codes "Change"))) ∙ (and_parts (is_numeral change) (nat_le (number_of change) (top_in (record_of d))) rule.change).0;
     fits = fits;
     state = subst (λ (x : List ℕ). IsOneOf (codes "on" ∷ codes "off" ∷ []) x) (v (codes "State")) rule.state;
   }
@@ -67,7 +68,7 @@ module _ (d : List Deed) (sound : IsSound d) where
 
       fits : number_of_field form (codes "Change") ≤ top d
       fits =
-          let low = le_true (number_of change) (top_in (record_of d)) (right-true (is_numeral change) (nat_le (number_of change) (top_in (record_of d))) rule.change) in
+          let low = le_true (number_of change) (top_in (record_of d)) (and_parts (is_numeral change) (nat_le (number_of change) (top_in (record_of d))) rule.change).1 in
           let value : top_in (record_of d) ≡ top d = top_value d in
           let one : number_of change ≡ number_of_field form (codes "Change") = ap number_of (v (codes "Change")) in
           omega (arith, low, value, one)

@@ -1,6 +1,7 @@
 -- What the saved forms of a sound depot say, and the shelved files that they tell of.
 use Rattle.std.proofs.Common.{◌≡◌, ℕ, Bool, true, false, List, [], ◌∷◌, ◌++◌, Option, Some, Result, Ok, Err, inl, inr, refl, sym, ap, subst, ◌∙◌}
 use Rattle.std.specs.Prelude.{◌&&◌, codes, decimal, IfSome, is_some, option_and_then, option_map, if◌then◌else◌}
+use Rattle.std.proofs.lemmas.Bool.{and_parts}
 use Rattle.depot_rows.specs.depot_path.Bytes.{same}
 use Rattle.depot_rows.specs.depot_path.Path.{printed, is_path}
 use Rattle.depot_rows.specs.depot_path.declared.fault.PathFault.{PathFault}
@@ -19,7 +20,7 @@ use Rattle.depot_rows.specs.depot_model.Rules.{IsSound, IsSpelled, IsRow, IsForm
 use Rattle.depot_rows.specs.depot_model.Shelves.{shelf_name, paths_in, is_of_change, is_kept, kept, kept_paths, shelf_paths, is_shelved}
 use Rattle.depot_rows.specs.depot_model.Values.{value_of}
 use Rattle.depot_rows.specs.Effects.{form_row}
-use Rattle.depot_rows.proofs.Keys.{same-is, same-self, left-true}
+use Rattle.depot_rows.proofs.Keys.{same-is, same-self}
 use Rattle.depot_rows.proofs.Entries.{In}
 use Rattle.depot_facts.proofs.Decimals.{decimal_digits, numeral_digits, parts_are}
 use Rattle.depot_facts.proofs.Listed.{filter_in, in_some}
@@ -115,7 +116,7 @@ module _ (d : List Deed) (sound : IsSound d) where
   shelf_parts n path form e =
       let value : (field : List ℕ) → value_in ShelfShape field (printed_form form) ≡ value_of form field = spec_value ShelfForm (shelf_name n path) form e in
       let shelf = saved_shelf (shelf_name n path) form e in
-      let numeral : is_numeral (value_of form (codes "Change")) ≡ true = ap is_numeral (sym (value (codes "Change"))) ∙ left-true _ _ (shelf.change) in
+      let numeral : is_numeral (value_of form (codes "Change")) ≡ true = ap is_numeral (sym (value (codes "Change"))) ∙ (and_parts _ _ (shelf.change)).0 in
       let named : decimal n ++ 0x20 ∷ printed path ≡ value_of form (codes "Change") ++ 0x20 ∷ value_of form (codes "Path") =
       shelf.named ∙ (λ i. value (codes "Change") i ++ 0x20 ∷ value (codes "Path") i) in
       parts_are (decimal n) (value_of form (codes "Change")) (printed path) (value_of form (codes "Path")) (decimal_digits n)

@@ -2,6 +2,7 @@
 use Rattle.std.proofs.Common.{◌≡◌, ℕ, Bool, true, false, List, [], ◌∷◌, ◌++◌, refl}
 use Rattle.std.specs.Prelude.{codes, map, flat_map, is_some, if◌then◌else◌}
 use Rattle.std.specs.List.{list_all}
+use Rattle.std.proofs.lemmas.Bool.{and_from, and_parts}
 use Rattle.depot_rows.specs.depot_path.Bytes.{same}
 use Rattle.depot_rows.specs.depot_path.Path.{is_path}
 use Rattle.depot_rows.specs.depot_model.Arguments.{paths_of, landed_paths, submitted, got_paths, open_paths, opened_by, had}
@@ -11,48 +12,46 @@ use Rattle.depot_rows.specs.depot_model.Rules.{has_paths, entry_paths}
 use Rattle.depot_rows.specs.depot_model.Shelves.{is_of_change, kept, kept_paths, paths_in, shelf_paths}
 use Rattle.depot_rows.specs.depot_model.Sorted.{path_inserted, all_inserted, is_before}
 use Rattle.depot_rows.specs.depot_model.Values.{value_of}
-use Rattle.depot_rows.proofs.Keys.{left-true, right-true}
 use Rattle.depot_facts.proofs.PathTexts.{paths_in_are}
 use Rattle.depot_facts.proofs.Steps.{all_filtered}
-use Rattle.depot_facts.proofs.Tests.{both_true}
 
 module _ (P : List ℕ → Bool) where
   inserted_all : (p : List ℕ) (paths : List (List ℕ)) → P p ≡ true → list_all P paths ≡ true → list_all P (path_inserted p paths) ≡ true
-  inserted_all p [] is e = both_true (P p) true is refl
+  inserted_all p [] is e = and_from (P p) true is refl
   inserted_all p (q ∷ paths) is e =
-      go (same p q) (is_before p q) (inserted_all p paths is (right-true (P q) (list_all P paths) e))
+      go (same p q) (is_before p q) (inserted_all p paths is (and_parts (P q) (list_all P paths) e).1)
     where
       go : (b c : Bool) → list_all P (path_inserted p paths) ≡ true
           → list_all P (if b then q ∷ paths else (if c then p ∷ q ∷ paths else q ∷ path_inserted p paths)) ≡ true
       go true c later = e
-      go false true later = both_true (P p) (list_all P (q ∷ paths)) is e
-      go false false later = both_true (P q) (list_all P (path_inserted p paths)) (left-true (P q) (list_all P paths) e) later
+      go false true later = and_from (P p) (list_all P (q ∷ paths)) is e
+      go false false later = and_from (P q) (list_all P (path_inserted p paths)) (and_parts (P q) (list_all P paths) e).0 later
 
   all_inserted_all : (more paths : List (List ℕ)) → list_all P more ≡ true → list_all P paths ≡ true → list_all P (all_inserted more paths) ≡ true
   all_inserted_all [] paths e f = f
   all_inserted_all (p ∷ more) paths e f =
-      inserted_all p (all_inserted more paths) (left-true (P p) (list_all P more) e) (all_inserted_all more paths (right-true (P p) (list_all P more) e) f)
+      inserted_all p (all_inserted more paths) (and_parts (P p) (list_all P more) e).0 (all_inserted_all more paths (and_parts (P p) (list_all P more) e).1 f)
 
   pub paths_all : (reading : Deed → List (List ℕ)) → ((deed : Deed) → has_paths deed ≡ true → list_all P (reading deed) ≡ true) → (d : List Deed)
       → list_all has_paths d ≡ true → list_all P (paths_of reading d) ≡ true
   paths_all reading told [] e = refl
   paths_all reading told (deed ∷ d) e =
-      all_inserted_all (reading deed) (paths_of reading d) (told deed (left-true (has_paths deed) (list_all has_paths d) e))
-      (paths_all reading told d (right-true (has_paths deed) (list_all has_paths d) e))
+      all_inserted_all (reading deed) (paths_of reading d) (told deed (and_parts (has_paths deed) (list_all has_paths d) e).0)
+      (paths_all reading told d (and_parts (has_paths deed) (list_all has_paths d) e).1)
 
 front_all : (xs ys : List (List ℕ)) → list_all is_path (xs ++ ys) ≡ true → list_all is_path xs ≡ true
 front_all [] ys e = refl
-front_all (x ∷ xs) ys e = both_true (is_path x) (list_all is_path xs) (left-true (is_path x) (list_all is_path (xs ++ ys)) e)
-    (front_all xs ys (right-true (is_path x) (list_all is_path (xs ++ ys)) e))
+front_all (x ∷ xs) ys e = and_from (is_path x) (list_all is_path xs) (and_parts (is_path x) (list_all is_path (xs ++ ys)) e).0
+    (front_all xs ys (and_parts (is_path x) (list_all is_path (xs ++ ys)) e).1)
 
 back_all : (xs ys : List (List ℕ)) → list_all is_path (xs ++ ys) ≡ true → list_all is_path ys ≡ true
 back_all [] ys e = e
-back_all (x ∷ xs) ys e = back_all xs ys (right-true (is_path x) (list_all is_path (xs ++ ys)) e)
+back_all (x ∷ xs) ys e = back_all xs ys (and_parts (is_path x) (list_all is_path (xs ++ ys)) e).1
 
 entries_all : (entries : List Entry) → list_all is_path (flat_map entry_paths entries) ≡ true → list_all is_path (map (λ (e : Entry). e.path) entries) ≡ true
 entries_all [] e = refl
-entries_all (x ∷ entries) e = both_true (is_path x.path) (list_all is_path (map (λ (y : Entry). y.path) entries))
-    (left-true (is_path x.path) _ (front_all (entry_paths x) (flat_map entry_paths entries) e))
+entries_all (x ∷ entries) e = and_from (is_path x.path) (list_all is_path (map (λ (y : Entry). y.path) entries))
+    (and_parts (is_path x.path) _ (front_all (entry_paths x) (flat_map entry_paths entries) e)).0
     (entries_all entries (back_all (entry_paths x) (flat_map entry_paths entries) e))
 
 pub landed_told : (deed : Deed) → has_paths deed ≡ true → list_all is_path (landed_paths deed) ≡ true
@@ -60,7 +59,7 @@ landed_told (Land l) e = entries_all l.entries e
 landed_told _ e = refl
 
 pub open_told : (deed : Deed) → has_paths deed ≡ true → list_all is_path (open_paths deed) ≡ true
-open_told (Open o) e = both_true (is_path o.path) true (left-true (is_path o.path) _ e) refl
+open_told (Open o) e = and_from (is_path o.path) true (and_parts (is_path o.path) _ e).0 refl
 open_told _ e = refl
 
 pub got_told : (client : List ℕ) (deed : Deed) → has_paths deed ≡ true → list_all is_path (got_paths client deed) ≡ true

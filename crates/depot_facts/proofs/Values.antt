@@ -2,7 +2,7 @@
 use Rattle.std.proofs.Common.{◌≡◌, ◌<◌, ◌/◌, ◌%◌, ℕ, zero, suc, Bool, true, false, List, [], ◌∷◌, ◌++◌, length, Option, Some, None, Ok, Err, refl, sym, ap, subst, ◌∙◌, arith}
 use Rattle.std.specs.Prelude.{◌&&◌, ◌||◌, ◌==◌, not, codes, decimal, filter, nat_lt, nat_le, slice_index, if◌then◌else◌}
 use Rattle.std.specs.List.{list_all, list_any}
-use Rattle.std.proofs.lemmas.Bool.{not-true}
+use Rattle.std.proofs.lemmas.Bool.{not-true, and_from, or_parts, and_parts}
 use Rattle.std.proofs.lemmas.Bool.Decides.{nat_tests}
 use Rattle.hex.proofs.HexLemmas.{decode_of-encode_lower}
 use Rattle.hex.specs.Hex.{IsBytes, encode_lower, encode_with, lower_digits}
@@ -19,9 +19,9 @@ use Rattle.depot_rows.specs.spec_form.Form.{value_lines}
 use Rattle.depot_rows.specs.spec_form.Texts.{trimmed_start, is_blank}
 use Rattle.depot_rows.specs.depot_model.Rules.{is_content_text}
 use Rattle.depot_rows.specs.depot_model.Types.{base_type, modifiers, is_base, are_modifiers, is_type, printed_type, is_printed_type}
-use Rattle.depot_rows.proofs.Keys.{same-is, same-self, left-true, right-true, number-is}
+use Rattle.depot_rows.proofs.Keys.{same-is, same-self, number-is}
 use Rattle.depot_facts.proofs.Decimals.{decimal_digits, digits_without, digits_utf8, digits_trimmed}
-use Rattle.depot_facts.proofs.Tests.{either_false, not_false, both_true}
+use Rattle.depot_facts.proofs.Tests.{not_false}
 
 -- ---- types
 
@@ -83,10 +83,10 @@ either_base base e P p q = go (same base (codes "text")) (same base (codes "bina
 
 pub type_named : (type : List ℕ) → is_printed_type type ≡ true → is_name type ≡ true
 type_named type e =
-    go (same type (base_type type)) refl (same-is (printed_type type) type (right-true (is_type type) (same (printed_type type) type) e))
+    go (same type (base_type type)) refl (same-is (printed_type type) type (and_parts (is_type type) (same (printed_type type) type) e).1)
   where
     based : is_base (base_type type) ≡ true
-    based = left-true (is_base (base_type type)) (same type (base_type type) || are_modifiers (modifiers type)) (left-true (is_type type) (same (printed_type type) type) e)
+    based = (and_parts (is_base (base_type type)) (same type (base_type type) || are_modifiers (modifiers type)) (and_parts (is_type type) (same (printed_type type) type) e).0).0
 
     test : ℕ → Bool
     test b = is_among (modifiers type) b
@@ -108,25 +108,25 @@ is_plain b = nat_lt b 0x80 && not (b == 0x0A)
 
 index_plain : (xs : List ℕ) (k : ℕ) → list_all is_plain xs ≡ true → is_plain (slice_index xs k) ≡ true
 index_plain [] k e = refl
-index_plain (x ∷ xs) zero e = left-true (is_plain x) (list_all is_plain xs) e
-index_plain (x ∷ xs) (suc k) e = index_plain xs k (right-true (is_plain x) (list_all is_plain xs) e)
+index_plain (x ∷ xs) zero e = (and_parts (is_plain x) (list_all is_plain xs) e).0
+index_plain (x ∷ xs) (suc k) e = index_plain xs k (and_parts (is_plain x) (list_all is_plain xs) e).1
 
 encoded_plain : (block : List ℕ) → list_all is_plain (encode_lower block) ≡ true
 unfolding encode_with
 encoded_plain [] = refl
 encoded_plain (b ∷ block) =
-    both_true _ _ (index_plain lower_digits (b / 16) refl) (both_true _ _ (index_plain lower_digits (b % 16) refl) (encoded_plain block))
+    and_from _ _ (index_plain lower_digits (b / 16) refl) (and_from _ _ (index_plain lower_digits (b % 16) refl) (encoded_plain block))
 
 plain_utf8 : (xs : List ℕ) → list_all is_plain xs ≡ true → is_utf8 xs ≡ true
 plain_utf8 [] e = refl
-plain_utf8 (x ∷ xs) e = ascii-cons x xs (small x (left-true (nat_lt x 0x80) (not (x == 0x0A)) (left-true (is_plain x) (list_all is_plain xs) e))) ∙ plain_utf8 xs (right-true (is_plain x) (list_all is_plain xs) e)
+plain_utf8 (x ∷ xs) e = ascii-cons x xs (small x (and_parts (nat_lt x 0x80) (not (x == 0x0A)) (and_parts (is_plain x) (list_all is_plain xs) e).0).0) ∙ plain_utf8 xs (and_parts (is_plain x) (list_all is_plain xs) e).1
   where
     small : (y : ℕ) → nat_lt y 0x80 ≡ true → y < 0x80
     small y h = grind (arith, nat_tests)
 
 plain_line : (xs : List ℕ) → list_all is_plain xs ≡ true → is_among xs 0x0A ≡ false
 plain_line [] e = refl
-plain_line (x ∷ xs) e = go (x == 0x0A) (right-true (nat_lt x 0x80) (not (x == 0x0A)) (left-true (is_plain x) (list_all is_plain xs) e)) (plain_line xs (right-true (is_plain x) (list_all is_plain xs) e))
+plain_line (x ∷ xs) e = go (x == 0x0A) (and_parts (nat_lt x 0x80) (not (x == 0x0A)) (and_parts (is_plain x) (list_all is_plain xs) e).0).1 (plain_line xs (and_parts (is_plain x) (list_all is_plain xs) e).1)
   where
     go : (b : Bool) → not b ≡ true → is_among xs 0x0A ≡ false → (b || is_among xs 0x0A) ≡ false
     go true h later = absurd cc
@@ -143,13 +143,13 @@ good_content block = record {
 pub content_is : (block : List ℕ) → IsBytes block → nat_le (length block) 8388608 ≡ true → is_content_text (codes "x" ++ encode_lower block) ≡ true
 content_is block bytes small =
     ap (λ r. elim r [ Err fault ↦ false | Ok x ↦ same (encode_lower x) (encode_lower block) && nat_le (length x) 8388608 ]) (decode_of-encode_lower block bytes)
-    ∙ both_true (same (encode_lower block) (encode_lower block)) (nat_le (length block) 8388608) (same-self (encode_lower block)) small
+    ∙ and_from (same (encode_lower block) (encode_lower block)) (nat_le (length block) 8388608) (same-self (encode_lower block)) small
 
 -- ---- paths and numbers
 
 no_control : (c : ℕ) → is_control c ≡ true → (text : List ℕ) → list_any is_control text ≡ false → is_among text c ≡ false
 no_control c h [] e = refl
-no_control c h (b ∷ text) e = go (b == c) refl (either_false (is_control b) (list_any is_control text) e) (no_control c h text)
+no_control c h (b ∷ text) e = go (b == c) refl (or_parts (is_control b) (list_any is_control text) e) (no_control c h text)
   where
     go : (r : Bool) → (b == c) ≡ r → (is_control b ≡ false) × (list_any is_control text ≡ false) → (list_any is_control text ≡ false → is_among text c ≡ false)
         → (r || is_among text c) ≡ false
@@ -181,7 +181,7 @@ path_text_is path is = go (path_fault (printed path)) refl (prints_path path is)
         (list_any (is_among (codes "@#*")) (printed path) || not (is_text (printed path))) (has_dot_component (printed path) || has_three_dots (printed path)) e in
         record {
           slashes = not_false (begins_with_slashes (printed path)) free.0;
-          plain = not_false (is_text (printed path)) (either_false (list_any (is_among (codes "@#*")) (printed path)) (not (is_text (printed path))) free.1).1;
+          plain = not_false (is_text (printed path)) (or_parts (list_any (is_among (codes "@#*")) (printed path)) (not (is_text (printed path))) free.1).1;
         }
 
 start_stays : (text : List ℕ) → begins_with_slashes text ≡ true → trimmed_start text ≡ text
@@ -203,8 +203,8 @@ good_path path is =
       value = printed path;
       is = refl;
       clean = record {
-        one = no_control 0x0A refl (printed path) (not-true (list_any is_control (printed path)) (right-true (is_utf8 (printed path)) (not (list_any is_control (printed path))) text.plain));
-        utf8 = left-true (is_utf8 (printed path)) (not (list_any is_control (printed path))) text.plain;
+        one = no_control 0x0A refl (printed path) (not-true (list_any is_control (printed path)) (and_parts (is_utf8 (printed path)) (not (list_any is_control (printed path))) text.plain).1);
+        utf8 = (and_parts (is_utf8 (printed path)) (not (list_any is_control (printed path))) text.plain).0;
       };
       trimmed = start_stays (printed path) text.slashes;
     }

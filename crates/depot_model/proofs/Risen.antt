@@ -2,7 +2,7 @@
 use Rattle.std.proofs.Common.{◌≡◌, ◌⊎◌, inl, inr, ℕ, zero, suc, ◌+◌, ◌<◌, ◌≤◌, Bool, true, false, not, ◌&&◌, eqb, cond, List, [], ◌∷◌, length, Option, Some, refl, sym, ap, subst, ◌∙◌, arith}
 use Rattle.std.specs.Prelude.{IsSome, Contains, find, slice_index_or, max}
 use Rattle.std.proofs.Math.Nat.{le-max_left, le-max_right}
-use Rattle.std.proofs.lemmas.Bool.{eq-eqb, eqb-true}
+use Rattle.std.proofs.lemmas.Bool.{eq-eqb, eqb-true, and_parts}
 use Rattle.depot_model.specs.Deeds.{Deed, Spec, Guard, Group, Count, Pend, Drop, Open, Shut, Hold, Free, Got, Tag, Owe, Paid, Land, Landing}
 use Rattle.depot_model.specs.Numbers.{top, pending, landings, landing}
 use Rattle.depot_model.specs.Rules.{NotBoth}
@@ -82,14 +82,6 @@ less zero (suc n) low ne = omega arith
 less (suc m) zero low ne = absurd (omega arith)
 less (suc m) (suc n) low ne = let h : m < n = less m n (omega arith) (λ e. ne (ap suc e)) in omega (arith, h)
 
-first_true : (a b : Bool) → (a && b) ≡ true → a ≡ true
-first_true true b e = refl
-first_true false b e = absurd cc
-
-second_true : (a b : Bool) → (a && b) ≡ true → b ≡ true
-second_true true b e = e
-second_true false b e = absurd cc
-
 no_zero : (n : ℕ) → not (eqb n 0) ≡ true → n ≡ 0 → ⊥
 no_zero zero e h = absurd cc
 no_zero (suc n) e h = absurd cc
@@ -103,8 +95,8 @@ not_landed d n l apart (inr p) nonzero h is = apart n p (has_landed d n l h is)
 by_number : (n t m : ℕ) (b : Bool) → (not (eqb n 0) && eqb n t) ≡ b → m ≤ t → (not (eqb n 0) ≡ true → m ≡ n → ⊥) → m < cond b n (t + 1)
 by_number n t m false e low ne = omega arith
 by_number n t m true e low ne =
-    let nonzero = first_true (not (eqb n 0)) (eqb n t) e in
-    let is : n ≡ t = eqb-true n t (second_true (not (eqb n 0)) (eqb n t) e) in
+    let nonzero = (and_parts (not (eqb n 0)) (eqb n t) e).0 in
+    let is : n ≡ t = eqb-true n t (and_parts (not (eqb n 0)) (eqb n t) e).1 in
     less m n (let P : ℕ → Type 0 = λ x. m ≤ x in subst P (sym is) low) (ne nonzero)
 
 pub lands_above : (d : List Deed) (n : ℕ) (l : Landing) → NotBoth d → (n ≡ 0) ⊎ IsSome (pending d n) → Contains (landings d) l →

@@ -1,7 +1,7 @@
 -- The calendar of dates, by the calendar of the library that reads them.
 use Rattle.std.proofs.Common.{◌≡◌, ℕ, zero, suc, ◌+◌, ◌-◌, ◌*◌, ◌/◌, ◌%◌, ◌≤◌, Bool, true, false, cond, Some, None, List, [], ◌∷◌, slice_index, refl, ap, subst, ◌∙◌, inl, inr, arith, ℤ, pos, ◌+ℤ◌, ◌-ℤ◌, ◌*ℤ◌}
 use Rattle.std.specs.Prelude.{◌==◌, ◌&&◌, ◌||◌, not, nat_lt, nat_le}
-use Rattle.std.proofs.lemmas.Bool.{cases_lt}
+use Rattle.std.proofs.lemmas.Bool.{cases_lt, and_from}
 use Rattle.std.proofs.lemmas.Bool.Decides.{eqb_tells, nat_tests}
 use Rattle.std.proofs.lemmas.Int.{ints}
 use Rattle.jiff_core.specs.Calendar.{day_count, days_from_civil, days_of_months, days_in_month as library_month}
@@ -85,9 +85,6 @@ when_true : (c : Bool) (z w : ℤ) → c ≡ true → z ≡ w → Some z ≡ con
 when_true true z w e f = ap (λ r. Some r) f
 when_true false z w e f = absurd cc
 
-both : (a b : Bool) → a ≡ true → b ≡ true → (a && b) ≡ true
-both a b e f = cc
-
 le_true : (m n : ℕ) → m ≤ n → nat_le m n ≡ true
 le_true m n h = grind (arith, nat_tests)
 
@@ -95,7 +92,7 @@ pub day_value : (year month day : ℕ) (z : ℤ) → 1 ≤ year → year ≤ 999
     z ≡ days_from_civil (pos year) month day → Some z ≡ cond (is_day year month day) (Some (pos (day_number year month day) -ℤ pos 719162)) None
 day_value year month day z y yy m mm d dd e =
     when_true (is_day year month day) z (pos (day_number year month day) -ℤ pos 719162)
-    (both _ _ (both _ _ (both _ _ (both _ _ (both _ _ (le_true 1 year y) (le_true year 9999 yy)) (le_true 1 month m)) (le_true month 12 mm)) (le_true 1 day d)) (le_true day (days_in_month year month) dd))
+    (and_from _ _ (and_from _ _ (and_from _ _ (and_from _ _ (and_from _ _ (le_true 1 year y) (le_true year 9999 yy)) (le_true 1 month m)) (le_true month 12 mm)) (le_true 1 day d)) (le_true day (days_in_month year month) dd))
     (e ∙ days_are year month day y m mm d)
 
 pub from_date : (dy : ℤ) (dm dd year month day : ℕ) (z : ℤ) → dy ≡ pos year → dm ≡ month → dd ≡ day → 1 ≤ year → year ≤ 9999 → 1 ≤ month → month ≤ 12 → 1 ≤ day →
@@ -117,7 +114,7 @@ pub moment_is : (text : List ℕ) (day : ℤ) (second : ℕ) (r : ℤ) →
 moment_is text day second r e f g =
     let a = some_when _ _ _ e in
     let b = some_when _ _ _ f in
-    when_true (is_date text) r (moment_of text) (both _ _ a.0 b.0)
+    when_true (is_date text) r (moment_of text) (and_from _ _ a.0 b.0)
     (g ∙ ap (λ n. n *ℤ pos 86400 +ℤ pos second) a.1
     ∙ ap (λ n. (pos (day_number (part_at 0 4 text) (part_at 5 2 text) (part_at 8 2 text)) -ℤ pos 719162) *ℤ pos 86400 +ℤ pos n) b.1
     ∙ second_is (day_number (part_at 0 4 text) (part_at 5 2 text) (part_at 8 2 text)) (3600 * part_at 11 2 text + 60 * part_at 14 2 text + part_at 17 2 text))

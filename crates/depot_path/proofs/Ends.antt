@@ -7,6 +7,7 @@ use Rattle.depot_path.specs.declared.revision.RevSpec.{RevSpec}
 use Rattle.depot_path.specs.declared.revision.Wanted.{Wanted}
 use Rattle.std.proofs.Common.{ℕ, List, cond, Ok, refl}
 use Rattle.std.specs.Prelude.{◌&&◌, not}
+use Rattle.std.proofs.lemmas.Bool.{and_parts}
 use Rattle.depot_path.specs.Bytes.{is_among}
 use Rattle.depot_path.specs.Name.{is_name, name_of}
 use Rattle.depot_path.specs.declared.name.NameFault.{NameFault}
@@ -25,15 +26,11 @@ both_read same a b first second r h k f g e = record {
   is = inr (e ∙ ap (λ x. range_of same x b) (settled a first h f) ∙ ap (λ x. range_of same first x) (settled b second k g));
 }
 
-and_left : (a b : Bool) → (a && b) ≡ true → a ≡ true
-and_left true b e = refl
-and_left false b e = absurd cc
-
 abbrev ok_name : List ℕ → Result (List ℕ) NameFault
 ok_name word = Ok word
 
 pub plain_is_name : (word : List ℕ) → is_plain_name word ≡ true → name_of word ≡ Ok word
-plain_is_name word e = named (is_name word) (and_left (is_name word) (not (is_among word 0x2C)) e)
+plain_is_name word e = named (is_name word) (and_parts (is_name word) (not (is_among word 0x2C)) e).0
   where
     named : (c : Bool) → c ≡ true → cond c (ok_name word) (Err NotAName) ≡ Ok word
     named true f = refl

@@ -3,6 +3,7 @@ use Rattle.std.proofs.Common.{◌≡◌, ℕ, Bool, true, false, cond, nat_le, L
 use Rattle.std.specs.Prelude.{codes, ◌||◌, ◌&&◌, not, nat_lt, nat_eq}
 use Rattle.std.specs.List.{list_any}
 use Rattle.std.proofs.lemmas.Bool.Decides.{nat_tests}
+use Rattle.std.proofs.lemmas.Bool.{and_parts, and_from, or_from, or_parts}
 use Rattle.depot_path.specs.declared.fault.PathFault.{PathFault}
 use Rattle.depot_path.specs.declared.fault.PathFault.TheVariants.{NoSlashes, EmptyPart, BadEscape, BadByte, TooLong, Dots}
 use Rattle.depot_path.specs.Bytes.{is_among, same}
@@ -22,14 +23,6 @@ record Alike (text path : List ℕ) : Type 0 where
 false_true : (let b : Bool = false in b) ≡ true → ⊥
 false_true e = absurd cc
 
-pub and_left : (a b : Bool) → (a && b) ≡ true → a ≡ true
-and_left true b e = refl
-and_left false b e = absurd (false_true e)
-
-pub and_right : (a b : Bool) → (a && b) ≡ true → b ≡ true
-and_right true b e = e
-and_right false b e = absurd (false_true e)
-
 record SlashesFirst (marks : List Mark) : Type 0 where
   after : List Mark
   text_is : drop 2 (spelled marks) ≡ spelled after
@@ -37,13 +30,13 @@ record SlashesFirst (marks : List Mark) : Type 0 where
 
 slashes_first : (marks : List Mark) → begins_with_slashes (meant marks) ≡ true → SlashesFirst marks
 slashes_first [] e = absurd (false_true e)
-slashes_first (Plain b ∷ []) e = absurd (false_true (and_right (nat_eq 47 b) false e))
+slashes_first (Plain b ∷ []) e = absurd (false_true (and_parts (nat_eq 47 b) false e).1)
 slashes_first (Plain b ∷ Plain c ∷ marks) e = record { after = marks; text_is = refl; path_is = refl }
-slashes_first (Plain b ∷ At ∷ marks) e = absurd (false_true (and_right (nat_eq 47 b) false e))
-slashes_first (Plain b ∷ Hash ∷ marks) e = absurd (false_true (and_right (nat_eq 47 b) false e))
-slashes_first (Plain b ∷ Star ∷ marks) e = absurd (false_true (and_right (nat_eq 47 b) false e))
-slashes_first (Plain b ∷ SmallStar ∷ marks) e = absurd (false_true (and_right (nat_eq 47 b) false e))
-slashes_first (Plain b ∷ Percent ∷ marks) e = absurd (false_true (and_right (nat_eq 47 b) false e))
+slashes_first (Plain b ∷ At ∷ marks) e = absurd (false_true (and_parts (nat_eq 47 b) false e).1)
+slashes_first (Plain b ∷ Hash ∷ marks) e = absurd (false_true (and_parts (nat_eq 47 b) false e).1)
+slashes_first (Plain b ∷ Star ∷ marks) e = absurd (false_true (and_parts (nat_eq 47 b) false e).1)
+slashes_first (Plain b ∷ SmallStar ∷ marks) e = absurd (false_true (and_parts (nat_eq 47 b) false e).1)
+slashes_first (Plain b ∷ Percent ∷ marks) e = absurd (false_true (and_parts (nat_eq 47 b) false e).1)
 slashes_first (At ∷ marks) e = absurd (false_true e)
 slashes_first (Hash ∷ marks) e = absurd (false_true e)
 slashes_first (Star ∷ marks) e = absurd (false_true e)
@@ -92,14 +85,6 @@ no_fault_after : (c : Bool) (f : PathFault) (rest : Option PathFault) → cond c
 no_fault_after true f rest e = absurd (some_none e)
 no_fault_after false f rest e = e
 
-or_first : (a b : Bool) → (a || b) ≡ false → a ≡ false
-or_first true b e = absurd cc
-or_first false b e = refl
-
-or_second : (a b : Bool) → (a || b) ≡ false → b ≡ false
-or_second true b e = absurd cc
-or_second false b e = e
-
 not_true : (a : Bool) → not a ≡ false → a ≡ true
 not_true true e = refl
 not_true false e = absurd cc
@@ -125,17 +110,14 @@ passes text e0 =
     record {
       size = no_fault_here _ _ _ e0;
       slashes = not_true _ (no_fault_here _ _ _ e1);
-      count = or_first _ _ (no_fault_here _ _ _ e2);
-      empty = or_second _ _ (no_fault_here _ _ _ e2);
+      count = (or_parts _ _ (no_fault_here _ _ _ e2)).0;
+      empty = (or_parts _ _ (no_fault_here _ _ _ e2)).1;
       escapes = no_fault_here _ _ _ e3;
-      barred = or_first _ _ (no_fault_here _ _ _ e4);
-      plain = not_true _ (or_second _ _ (no_fault_here _ _ _ e4));
-      dot = or_first _ _ (no_fault_here _ _ _ e5);
-      dots = or_second _ _ (no_fault_here _ _ _ e5);
+      barred = (or_parts _ _ (no_fault_here _ _ _ e4)).0;
+      plain = not_true _ (or_parts _ _ (no_fault_here _ _ _ e4)).1;
+      dot = (or_parts _ _ (no_fault_here _ _ _ e5)).0;
+      dots = (or_parts _ _ (no_fault_here _ _ _ e5)).1;
     }
-
-pub both : (a b : Bool) → a ≡ true → b ≡ true → (a && b) ≡ true
-both a b e f = cc
 
 pub not_false : (a : Bool) → a ≡ false → not a ≡ true
 not_false a e = ap not e
@@ -148,7 +130,7 @@ enough m n e f = grind (arith, nat_tests)
 
 path_from : (text path : List ℕ) → Passes text → Alike text path → is_path path ≡ true
 path_from text path p a =
-    both _ _ (both _ _ (both _ _ (both _ _ (both _ _ (both _ _
+    and_from _ _ (and_from _ _ (and_from _ _ (and_from _ _ (and_from _ _ (and_from _ _
     (short (length text) (length (printed path)) p.size a.size)
     (sym a.slashes ∙ p.slashes))
     (enough (length (components text)) (length (components path)) p.count a.count))
@@ -179,9 +161,6 @@ pub not_not : (a : Bool) → not a ≡ true → a ≡ false
 not_not true e = absurd cc
 not_not false e = refl
 
-neither : (a b : Bool) → a ≡ false → b ≡ false → (a || b) ≡ false
-neither a b e f = cc
-
 no_fault : (c0 c1 c2 c3 c4 c5 : Bool) → c0 ≡ false → c1 ≡ false → c2 ≡ false → c3 ≡ false → c4 ≡ false → c5 ≡ false →
     first_fault ((c0, TooLong) ∷ (c1, NoSlashes) ∷ (c2, EmptyPart) ∷ (c3, BadEscape) ∷ (c4, BadByte) ∷ (c5, Dots) ∷ []) ≡ None
 no_fault true c1 c2 c3 c4 c5 e0 e1 e2 e3 e4 e5 = absurd cc
@@ -200,20 +179,20 @@ alike_printed path e =
 
 passes_printed : (path : List ℕ) → is_path path ≡ true → path_fault (printed path) ≡ None
 passes_printed path e6 =
-    let e5 = and_left _ _ e6 in
-    let e4 = and_left _ _ e5 in
-    let e3 = and_left _ _ e4 in
-    let e2 = and_left _ _ e3 in
-    let e1 = and_left _ _ e2 in
-    let starts : begins_with_slashes path ≡ true = and_right _ _ e1 in
+    let e5 = (and_parts _ _ e6).0 in
+    let e4 = (and_parts _ _ e5).0 in
+    let e3 = (and_parts _ _ e4).0 in
+    let e2 = (and_parts _ _ e3).0 in
+    let e1 = (and_parts _ _ e2).0 in
+    let starts : begins_with_slashes path ≡ true = (and_parts _ _ e1).1 in
     let a : Alike (printed path) path = alike_printed path starts in
     no_fault _ _ _ _ _ _
-    (not_long (length (printed path)) (length (printed path)) (and_left _ _ e1) refl)
+    (not_long (length (printed path)) (length (printed path)) (and_parts _ _ e1).0 refl)
     (ap not (a.slashes ∙ starts))
-    (neither _ _ (not_few (length (components (printed path))) (length (components path)) (and_right _ _ e2) a.count) (a.empty ∙ not_not _ (and_right _ _ e3)))
+    (or_from _ _ (not_few (length (components (printed path))) (length (components path)) (and_parts _ _ e2).1 a.count) (a.empty ∙ not_not _ (and_parts _ _ e3).1))
     (ap has_bad_escape (sym (marks_spelled path)) ∙ no_bad (marks_of path) (marks_are path))
-    (neither _ _ (ap (λ t. list_any (is_among (codes "@#*")) t) (sym (marks_spelled path)) ∙ none_barred (marks_of path) (marks_are path)) (ap not (a.plain ∙ and_right _ _ e4)))
-    (neither _ _ (a.dot ∙ not_not _ (and_right _ _ e5)) (a.dots ∙ not_not _ (and_right _ _ e6)))
+    (or_from _ _ (ap (λ t. list_any (is_among (codes "@#*")) t) (sym (marks_spelled path)) ∙ none_barred (marks_of path) (marks_are path)) (ap not (a.plain ∙ (and_parts _ _ e4).1)))
+    (or_from _ _ (a.dot ∙ not_not _ (and_parts _ _ e5).1) (a.dots ∙ not_not _ (and_parts _ _ e6).1))
 
 found : (text path : List ℕ) → path_fault text ≡ None → unescaped 0 text ≡ path → path_of text ≡ Ok path
 found text path e f = ap (λ o. unless o (unescaped 0 text)) e ∙ ap (λ p. unless None p) f

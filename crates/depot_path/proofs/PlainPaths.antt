@@ -5,16 +5,17 @@ use Rattle.std.specs.List.{list_any, onto_first}
 use Rattle.std.specs.Cmp.Lexicographic.{same_text}
 use Rattle.std.proofs.lemmas.Bool.Decides.{nat_tests}
 use Rattle.std.proofs.lemmas.List.{take-append-drop}
+use Rattle.std.proofs.lemmas.Bool.{and_parts, and_from}
 use Rattle.depot_path.specs.Bytes.{is_among, is_control, same}
 use Rattle.depot_path.specs.Utf8.{goes_on}
 use Rattle.depot_path.specs.Path.{printed, components, begins_with_slashes, has_three_dots, is_path, path_of, is_plain_after, are_plain_after, are_plain_components, is_plain_path}
 use Rattle.depot_path.proofs.Units.{IsPlain, escaped_plain, rest_1, slash_split, start}
-use Rattle.depot_path.proofs.Paths.{and_left, and_right, both, not_false, not_not, prints_path}
+use Rattle.depot_path.proofs.Paths.{not_false, not_not, prints_path}
 
 absurd_false : (let b : Bool = false in b) ≡ true → ⊥
 absurd_false e = absurd cc
 
--- what a byte that may stand behind another one says of both
+-- what a byte that may stand behind another one says of and_from
 record Behind (before b : ℕ) : Type 0 where
   low : nat_le 0x20 b ≡ true
   high : nat_le b 0x7E ≡ true
@@ -27,15 +28,15 @@ among_all b e = record { no_at = grind (arith, nat_tests); no_hash = grind (arit
 
 behind : (before b : ℕ) → is_plain_after before b ≡ true → Behind before b
 behind before b e4 =
-    let e3 = and_left _ _ e4 in
-    let e2 = and_left _ _ e3 in
-    let e1 = and_left _ _ e2 in
+    let e3 = (and_parts _ _ e4).0 in
+    let e2 = (and_parts _ _ e3).0 in
+    let e1 = (and_parts _ _ e2).0 in
     record {
-      low = and_left _ _ e1;
-      high = and_right _ _ e1;
-      plain = among_all b (not_not _ (and_right _ _ e2));
-      slash = not_not _ (and_right _ _ e3);
-      dot = not_not _ (and_right _ _ e4);
+      low = (and_parts _ _ e1).0;
+      high = (and_parts _ _ e1).1;
+      plain = among_all b (not_not _ (and_parts _ _ e2).1);
+      slash = not_not _ (and_parts _ _ e3).1;
+      dot = not_not _ (and_parts _ _ e4).1;
     }
 
 -- ---- bytes
@@ -43,8 +44,8 @@ behind before b e4 =
 plain_printed : (before : ℕ) (text : List ℕ) → are_plain_after before text ≡ true → printed text ≡ text
 plain_printed before [] e = refl
 plain_printed before (b ∷ text) e =
-    let h : Behind before b = behind before b (and_left _ _ e) in
-    ap (λ r. r ++ printed text) (escaped_plain b h.plain) ∙ ap (λ r. b ∷ r) (plain_printed b text (and_right _ _ e))
+    let h : Behind before b = behind before b (and_parts _ _ e).0 in
+    ap (λ r. r ++ printed text) (escaped_plain b h.plain) ∙ ap (λ r. b ∷ r) (plain_printed b text (and_parts _ _ e).1)
 
 ascii : (b : ℕ) → nat_le b 0x7E ≡ true → nat_le b 0x7F ≡ true
 ascii b e = grind (arith, nat_tests)
@@ -52,8 +53,8 @@ ascii b e = grind (arith, nat_tests)
 plain_utf8 : (before : ℕ) (text : List ℕ) → are_plain_after before text ≡ true → goes_on (Some start) text ≡ true
 plain_utf8 before [] e = refl
 plain_utf8 before (b ∷ text) e =
-    let h : Behind before b = behind before b (and_left _ _ e) in
-    ap (λ c. goes_on (cond c (Some start) (rest_1 b)) text) (ascii b h.high) ∙ plain_utf8 b text (and_right _ _ e)
+    let h : Behind before b = behind before b (and_parts _ _ e).0 in
+    ap (λ c. goes_on (cond c (Some start) (rest_1 b)) text) (ascii b h.high) ∙ plain_utf8 b text (and_parts _ _ e).1
 
 no_control : (b : ℕ) → nat_le 0x20 b ≡ true → nat_le b 0x7E ≡ true → is_control b ≡ false
 no_control b e f = grind (arith, nat_tests)
@@ -64,8 +65,8 @@ neither e f = cc
 plain_control : (before : ℕ) (text : List ℕ) → are_plain_after before text ≡ true → list_any is_control text ≡ false
 plain_control before [] e = refl
 plain_control before (b ∷ text) e =
-    let h : Behind before b = behind before b (and_left _ _ e) in
-    neither (no_control b h.low h.high) (plain_control b text (and_right _ _ e))
+    let h : Behind before b = behind before b (and_parts _ _ e).0 in
+    neither (no_control b h.low h.high) (plain_control b text (and_parts _ _ e).1)
 
 -- ---- dots
 
@@ -80,8 +81,8 @@ plain_dots : (before : ℕ) (text : List ℕ) → are_plain_after before text �
 plain_dots before [] e = refl
 plain_dots before (b ∷ []) e = neither (no_more (nat_eq 46 b)) refl
 plain_dots before (b ∷ c ∷ text) e =
-    let h : Behind b c = behind b c (and_left _ _ (and_right _ _ e)) in
-    neither (two_dots b c _ h.dot) (plain_dots b (c ∷ text) (and_right _ _ e))
+    let h : Behind b c = behind b c (and_parts _ _ (and_parts _ _ e).1).0 in
+    neither (two_dots b c _ h.dot) (plain_dots b (c ∷ text) (and_parts _ _ e).1)
 
 -- ---- components
 
@@ -104,8 +105,8 @@ module _ (test : List ℕ → Bool) (fails : (b : ℕ) (part : List ℕ) → (b 
       go true e = absurd (absurd_false e)
       go false e = refl
   fail_parts before (b ∷ text) e =
-      let h : Behind before b = behind before b (and_left _ _ e) in
-      go (b == 0x2F) (before == 0x2F) h.slash (λ slash. no_dot b before h.dot slash) (fail_parts b text (and_right _ _ e))
+      let h : Behind before b = behind before b (and_parts _ _ e).0 in
+      go (b == 0x2F) (before == 0x2F) h.slash (λ slash. no_dot b before h.dot slash) (fail_parts b text (and_parts _ _ e).1)
     where
       no_dot : (b before : ℕ) → ((b == 0x2E) && ((before == 0x2F) || (before == 0x2E))) ≡ false → (before == 0x2F) ≡ true → (b == 0x2E) ≡ false
       no_dot b before e f = grind (arith, nat_tests)
@@ -162,28 +163,28 @@ module _ (rest : List ℕ) (short : nat_le (length (0x2F ∷ 0x2F ∷ rest)) 102
 
   rest_path : is_path (0x2F ∷ 0x2F ∷ rest) ≡ true
   rest_path =
-      both _ _ (both _ _ (both _ _ (both _ _ (both _ _ (both _ _
+      and_from _ _ (and_from _ _ (and_from _ _ (and_from _ _ (and_from _ _ (and_from _ _
       (ap (λ t. nat_le (length t) 1024) rest_printed ∙ short)
       refl)
       (two_parts rest parted))
       (not_false _ (fail_parts (same []) not_empty 0x2F rest plain)))
-      (both _ _ (plain_utf8 0x2F rest plain) (not_false _ (plain_control 0x2F rest plain))))
+      (and_from _ _ (plain_utf8 0x2F rest plain) (not_false _ (plain_control 0x2F rest plain))))
       (not_false _ (fail_parts (λ part. same part (codes ".") || same part (codes "..")) not_dots 0x2F rest plain)))
       (not_false _ (plain_dots 0x2F rest plain))
 
 pub plain_is_printed : (text : List ℕ) → is_plain_path text ≡ true → printed text ≡ text
 plain_is_printed text e2 =
-    let e1 = and_left _ _ e2 in
-    let e = and_right _ _ e2 in
-    let is = slashes_before text (and_right _ _ e1) in
-    subst (λ t. printed t ≡ t) (sym is) (rest_printed (drop 2 text) (ap (λ t. nat_le (length t) 1024) (sym is) ∙ and_left _ _ e1) (and_left _ _ e) (and_right _ _ e))
+    let e1 = (and_parts _ _ e2).0 in
+    let e = (and_parts _ _ e2).1 in
+    let is = slashes_before text (and_parts _ _ e1).1 in
+    subst (λ t. printed t ≡ t) (sym is) (rest_printed (drop 2 text) (ap (λ t. nat_le (length t) 1024) (sym is) ∙ (and_parts _ _ e1).0) (and_parts _ _ e).0 (and_parts _ _ e).1)
 
 pub plain_is_path : (text : List ℕ) → is_plain_path text ≡ true → is_path text ≡ true
 plain_is_path text e2 =
-    let e1 = and_left _ _ e2 in
-    let e = and_right _ _ e2 in
-    let is = slashes_before text (and_right _ _ e1) in
-    subst (λ t. is_path t ≡ true) (sym is) (rest_path (drop 2 text) (ap (λ t. nat_le (length t) 1024) (sym is) ∙ and_left _ _ e1) (and_left _ _ e) (and_right _ _ e))
+    let e1 = (and_parts _ _ e2).0 in
+    let e = (and_parts _ _ e2).1 in
+    let is = slashes_before text (and_parts _ _ e1).1 in
+    subst (λ t. is_path t ≡ true) (sym is) (rest_path (drop 2 text) (ap (λ t. nat_le (length t) 1024) (sym is) ∙ (and_parts _ _ e1).0) (and_parts _ _ e).0 (and_parts _ _ e).1)
 
 pub plain_is_read : (text : List ℕ) → is_plain_path text ≡ true → path_of text ≡ Ok text
 plain_is_read text e = ap path_of (sym (plain_is_printed text e)) ∙ prints_path text (plain_is_path text e)
@@ -193,4 +194,4 @@ short text h = grind (arith, nat_tests)
 
 -- a text is plain where it is short, begins with the slashes, and the rest was told to be plain
 pub told_plain : (text rest : List ℕ) (slashes told : Bool) → length text ≤ 1024 → slashes ≡ begins_with_slashes text → slashes ≡ true → rest ≡ drop 2 text → told ≡ are_plain_components rest → IsTrue told → is_plain_path text ≡ true
-told_plain text rest slashes told h e f g k is = both _ _ (both _ _ (short text h) (sym e ∙ f)) (ap are_plain_components (sym g) ∙ sym k ∙ is)
+told_plain text rest slashes told h e f g k is = and_from _ _ (and_from _ _ (short text h) (sym e ∙ f)) (ap are_plain_components (sym g) ∙ sym k ∙ is)

@@ -1,7 +1,7 @@
 -- A text and the bytes that it spells, mark by mark: a mark is a byte that stands for itself, or an escape.
 use Rattle.std.proofs.Common.{◌≡◌, ℕ, zero, suc, ◌-◌, ◌≤◌, Bool, true, false, cond, nat_le, List, [], ◌∷◌, ◌++◌, drop, take, length, map, Option, Some, None, refl, sym, ap, ◌∙◌, arith, lit≤}
 use Rattle.std.proofs.lemmas.Bool.Decides.{nat_tests}
-use Rattle.std.proofs.lemmas.Bool.{eqb-true}
+use Rattle.std.proofs.lemmas.Bool.{eqb-true, or_parts}
 use Rattle.std.specs.Prelude.{codes, ◌==◌, ◌||◌, ◌&&◌, nat_eq, is_none}
 use Rattle.std.specs.List.{list_any, slice_split, onto_first, flat_map}
 use Rattle.std.specs.Cmp.Lexicographic.{pointwise, same_text}
@@ -455,14 +455,6 @@ pub record AreMarksOf (k : ℕ) (text : List ℕ) : Type 0 where
   pub source_is : spelled marks ≡ drop k text
   pub value_is : meant marks ≡ unescaped k text
 
-or_first : (a b : Bool) → (a || b) ≡ false → a ≡ false
-or_first true b e = absurd cc
-or_first false b e = refl
-
-or_second : (a b : Bool) → (a || b) ≡ false → b ≡ false
-or_second true b e = absurd cc
-or_second false b e = e
-
 -- an escape of three bytes, and what follows
 code_at : (code text : List ℕ) → pointwise nat_eq code (take 3 text) ≡ true → text ≡ code ++ drop 3 text
 code_at code text e = sym (ap (λ w. w ++ drop 3 text) (same_text code (take 3 text) (sym e)) ∙ take-append-drop 3 text)
@@ -495,11 +487,11 @@ and_true false e = refl
 
 plain_byte : (b : ℕ) → is_among (codes "@#*") b ≡ false → nat_eq 37 b ≡ false → IsPlain b
 plain_byte b e f =
-    let g = or_second (0x40 == b) _ e in
+    let g = (or_parts (0x40 == b) _ e).1 in
     record {
-      no_at = turned 0x40 b (or_first (0x40 == b) _ e);
-      no_hash = turned 0x23 b (or_first (0x23 == b) _ g);
-      no_star = turned 0x2A b (or_first (0x2A == b) _ (or_second (0x23 == b) _ g));
+      no_at = turned 0x40 b (or_parts (0x40 == b) _ e).0;
+      no_hash = turned 0x23 b (or_parts (0x23 == b) _ g).0;
+      no_star = turned 0x2A b (or_parts (0x2A == b) _ (or_parts (0x23 == b) _ g).1).0;
       no_percent = turned 0x25 b f;
     }
 
@@ -509,7 +501,7 @@ mark_first b text e f one three = go (escape_at (b ∷ text)) refl
   where
     go : (o : Option ℕ) → escape_at (b ∷ text) ≡ o → AreMarksOf 0 (b ∷ text)
     go None p =
-        let bad : ((nat_eq 37 b && true) && is_none (escape_at (b ∷ text))) ≡ false = or_first ((nat_eq 37 b && true) && is_none (escape_at (b ∷ text))) (has_bad_escape text) e in
+        let bad : ((nat_eq 37 b && true) && is_none (escape_at (b ∷ text))) ≡ false = (or_parts ((nat_eq 37 b && true) && is_none (escape_at (b ∷ text))) (has_bad_escape text) e).0 in
         let q : (nat_eq 37 b && true) ≡ false = and_true (nat_eq 37 b && true) (ap (λ o. (nat_eq 37 b && true) && is_none o) (sym p) ∙ bad) in
         record {
           marks = Plain b ∷ one.marks;
@@ -530,7 +522,7 @@ pub find_marks : (k : ℕ) (text : List ℕ) → has_bad_escape text ≡ false �
 find_marks zero [] e f = record { marks = []; are = tt; source_is = refl; value_is = refl }
 find_marks (suc k) [] e f = record { marks = []; are = tt; source_is = refl; value_is = refl }
 find_marks (suc k) (b ∷ text) e f =
-    let r : AreMarksOf k text = find_marks k text (or_second _ _ e) (or_second _ _ f) in
+    let r : AreMarksOf k text = find_marks k text (or_parts _ _ e).1 (or_parts _ _ f).1 in
     record { marks = r.marks; are = r.are; source_is = r.source_is; value_is = r.value_is }
 find_marks zero (b ∷ text) e f =
-    mark_first b text e (or_first _ _ f) (find_marks 0 text (or_second _ _ e) (or_second _ _ f)) (find_marks 2 text (or_second _ _ e) (or_second _ _ f))
+    mark_first b text e (or_parts _ _ f).0 (find_marks 0 text (or_parts _ _ e).1 (or_parts _ _ f).1) (find_marks 2 text (or_parts _ _ e).1 (or_parts _ _ f).1)

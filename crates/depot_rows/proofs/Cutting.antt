@@ -3,7 +3,7 @@ use Rattle.std.proofs.Common.{◌≡◌, ◌≢◌, ℕ, Bool, true, false, List
 use Rattle.std.specs.Prelude.{◌&&◌, ◌==◌, max, if◌then◌else◌, option_map, filter, find, is_some}
 use Rattle.std.specs.List.{cons_option}
 use Rattle.std.specs.Option.{option_or, option_flatten}
-use Rattle.std.proofs.lemmas.Bool.{true≢false}
+use Rattle.std.proofs.lemmas.Bool.{true≢false, and_parts}
 use Rattle.std.proofs.lemmas.Iterator.Adapters.{option_map_id}
 use Rattle.std.proofs.lemmas.List.{map-append, length-map}
 use Rattle.depot_model.specs.depot_path.Bytes.{same}
@@ -15,7 +15,7 @@ use Rattle.depot_model.specs.Latest.{latest, when, have_said, label_said, count_
 use Rattle.depot_model.specs.Numbers.{top, landings, landing, pending_said}
 use Rattle.depot_model.specs.Opened.{opened, opening_said, owed, paid_by, Resolve, holder, keeps}
 use Rattle.depot_model.specs.Revisions.{Revision, revisions, entries_at, head}
-use Rattle.depot_rows.proofs.Keys.{same-is, right-true}
+use Rattle.depot_rows.proofs.Keys.{same-is}
 use Rattle.depot_rows.proofs.Resolves.{three_true}
 
 module _ (rules : List FilterRule) where
@@ -182,7 +182,7 @@ module _ (rules : List FilterRule) where
   other_path p x a apart = go (a && same p x) refl
     where
       go : (b : Bool) → (a && same p x) ≡ b → b ≡ false
-      go true e = absurd (apart (ap (is_inside rules) (same-is p x (right-true a (same p x) e))))
+      go true e = absurd (apart (ap (is_inside rules) (same-is p x (and_parts a (same p x) e).1)))
       go false e = refl
 
   differ : (a b : Bool) → a ≡ false → b ≡ true → a ≢ b

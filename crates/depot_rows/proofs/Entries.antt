@@ -2,7 +2,7 @@
 use Rattle.std.proofs.Common.{◌≡◌, ◌+◌, ℕ, suc, Bool, true, false, not, List, [], ◌∷◌, map, Some, None, inl, inr, ◌⊎◌, refl, sym, ap, subst, ◌∙◌}
 use Rattle.std.specs.Prelude.{◌&&◌, ◌||◌, ◌==◌, if◌then◌else◌, find, slice_get, filter}
 use Rattle.std.specs.List.{list_any, list_all}
-use Rattle.std.proofs.lemmas.Bool.{true≢false}
+use Rattle.std.proofs.lemmas.Bool.{true≢false, or_parts, and_parts}
 use Rattle.depot_model.specs.depot_path.Bytes.{same}
 use Rattle.depot_model.specs.depot_path.Path.{printed, is_path}
 use Rattle.depot_model.specs.Deeds as model
@@ -11,7 +11,7 @@ use Rattle.depot_model.specs.Revisions.{head}
 use Rattle.depot_rows.specs.declared.deed.Entry.{Entry}
 use Rattle.depot_rows.specs.Deed.{IsEntry, AreEntries}
 use Rattle.depot_rows.specs.Effects.{entry_path, is_revision}
-use Rattle.depot_rows.proofs.Keys.{same-is, same-self, number-is, number-self, left-true, right-true}
+use Rattle.depot_rows.proofs.Keys.{same-is, same-self, number-is, number-self}
 
 abbrev pub In : {A : Type 0} → List A → A → Type 0
 In [] x = ⊥
@@ -37,14 +37,6 @@ not-true : (b : Bool) → not b ≡ true → b ≡ false
 not-true true e = absurd cc
 not-true false e = refl
 
-or-left : (a b : Bool) → (a || b) ≡ false → a ≡ false
-or-left true b e = absurd cc
-or-left false b e = refl
-
-or-right : (a b : Bool) → (a || b) ≡ false → b ≡ false
-or-right true b e = absurd cc
-or-right false b e = e
-
 turned : (a b : List ℕ) → same a b ≡ false → same b a ≡ false
 turned a b e = go (same b a) refl
   where
@@ -56,8 +48,8 @@ turned a b e = go (same b a) refl
 none_of : (path : List ℕ) (xs : List model.Entry) → list_any (same path) (map path_in xs) ≡ false → of_path path xs ≡ []
 none_of path [] e = refl
 none_of path (x ∷ xs) e =
-    go (same x.path path) (turned path x.path (or-left (same path x.path) (list_any (same path) (map path_in xs)) e))
-    (none_of path xs (or-right (same path x.path) (list_any (same path) (map path_in xs)) e))
+    go (same x.path path) (turned path x.path (or_parts (same path x.path) (list_any (same path) (map path_in xs)) e).0)
+    (none_of path xs (or_parts (same path x.path) (list_any (same path) (map path_in xs)) e).1)
   where
     go : (b : Bool) → b ≡ false → of_path path xs ≡ [] → (if b then x ∷ of_path path xs else of_path path xs) ≡ []
     go true h rest = absurd cc
@@ -67,7 +59,7 @@ none_of path (x ∷ xs) e =
 pub once : (xs : List model.Entry) → are_distinct (map path_in xs) ≡ true → (x : model.Entry) → In xs x → of_path x.path xs ≡ x ∷ []
 once [] e x is = absurd is
 once (y ∷ ys) e x (inl same_one) =
-    let apart : list_any (same y.path) (map path_in ys) ≡ false = not-true _ (left-true _ _ e) in
+    let apart : list_any (same y.path) (map path_in ys) ≡ false = not-true _ (and_parts _ _ e).0 in
     ap (λ (z : model.Entry). of_path z.path (y ∷ ys)) (sym same_one)
     ∙ go (same y.path y.path) (same-self y.path) (none_of y.path ys apart)
     ∙ ap (λ (z : model.Entry). z ∷ []) same_one
@@ -76,8 +68,8 @@ once (y ∷ ys) e x (inl same_one) =
     go true h rest = ap (λ (zs : List model.Entry). y ∷ zs) rest
     go false h rest = absurd cc
 once (y ∷ ys) e x (inr later) =
-    let apart : list_any (same y.path) (map path_in ys) ≡ false = not-true _ (left-true _ _ e) in
-    go (same y.path x.path) refl (once ys (right-true _ _ e) x later) (none_of y.path ys apart)
+    let apart : list_any (same y.path) (map path_in ys) ≡ false = not-true _ (and_parts _ _ e).0 in
+    go (same y.path x.path) refl (once ys (and_parts _ _ e).1 x later) (none_of y.path ys apart)
   where
     go : (b : Bool) → same y.path x.path ≡ b → of_path x.path ys ≡ x ∷ [] → of_path y.path ys ≡ []
         → (if b then y ∷ of_path x.path ys else of_path x.path ys) ≡ x ∷ []
@@ -88,8 +80,8 @@ once (y ∷ ys) e x (inr later) =
 pub at_most_once : (path : List ℕ) (xs : List model.Entry) → are_distinct (map path_in xs) ≡ true → (k : ℕ) → slice_get (of_path path xs) (suc k) ≡ None
 at_most_once path [] e k = refl
 at_most_once path (y ∷ ys) e k =
-    let apart : list_any (same y.path) (map path_in ys) ≡ false = not-true _ (left-true _ _ e) in
-    go (same y.path path) refl (none_of y.path ys apart) (at_most_once path ys (right-true _ _ e) k)
+    let apart : list_any (same y.path) (map path_in ys) ≡ false = not-true _ (and_parts _ _ e).0 in
+    go (same y.path path) refl (none_of y.path ys apart) (at_most_once path ys (and_parts _ _ e).1 k)
   where
     go : (b : Bool) → same y.path path ≡ b → of_path y.path ys ≡ [] → slice_get (of_path path ys) (suc k) ≡ None
         → slice_get (if b then y ∷ of_path path ys else of_path path ys) (suc k) ≡ None
@@ -111,19 +103,19 @@ picked d text n [] [] are paths e found = absurd cc
 picked d text n [] (x ∷ xs) are paths e found = absurd are
 picked d text n (y ∷ ys) [] are paths e found = absurd are
 picked d text n (y ∷ ys) (x ∷ xs) are paths e found =
-    go (is_revision text n y) refl found (picked d text n ys xs are.1 (right-true _ _ paths) e)
+    go (is_revision text n y) refl found (picked d text n ys xs are.1 (and_parts _ _ paths).1 e)
   where
     here : y ≡ e → is_revision text n y ≡ true → IsPicked d text n e (x ∷ xs) x
     here one h =
         let is : IsEntry d y x = are.0 in
-        let spelled : same (printed y.path) text ≡ true = left-true (same (printed y.path) text) (y.rev == n) h in
+        let spelled : same (printed y.path) text ≡ true = (and_parts (same (printed y.path) text) (y.rev == n) h).0 in
         let P : Entry → Type 0 = λ z. IsPicked d text n z (x ∷ xs) x in
         subst P one (record {
           is = is;
           there = inl refl;
-          path = ap is_path (sym is.path) ∙ left-true (is_path y.path) (list_all is_path (map entry_path ys)) paths;
+          path = ap is_path (sym is.path) ∙ (and_parts (is_path y.path) (list_all is_path (map entry_path ys)) paths).0;
           text_is = ap printed (sym is.path) ∙ same-is (printed y.path) text spelled;
-          number = number-is y.rev n (right-true (same (printed y.path) text) (y.rev == n) h);
+          number = number-is y.rev n (and_parts (same (printed y.path) text) (y.rev == n) h).1;
         })
 
     go : (b : Bool) → is_revision text n y ≡ b → (if b then Some y else find (is_revision text n) ys) ≡ Some e

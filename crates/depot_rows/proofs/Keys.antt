@@ -35,14 +35,6 @@ number-is m n e = (Decides-eqb m n).0 e
 pub number-self : (n : ℕ) → (n == n) ≡ true
 number-self n = (Decides-eqb n n).1 refl
 
-pub left-true : (a b : Bool) → (a && b) ≡ true → a ≡ true
-left-true true b e = refl
-left-true false b e = e
-
-pub right-true : (a b : Bool) → (a && b) ≡ true → b ≡ true
-right-true true b e = e
-right-true false b e = absurd cc
-
 equal-is : (o : Ordering) → is_eq o ≡ true → o ≡ Equal
 equal-is Less e = absurd cc
 equal-is Equal e = refl

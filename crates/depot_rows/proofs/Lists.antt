@@ -3,6 +3,7 @@ use Rattle.std.proofs.Common.{◌≡◌, ◌≢◌, ℕ, zero, suc, Bool, true, 
 use Rattle.std.specs.Prelude.{◌&&◌, if◌then◌else◌, option_map, option_and_then, unwrap_or, find}
 use Rattle.std.specs.Option.{option_or}
 use Rattle.std.specs.List.{list_any}
+use Rattle.std.proofs.lemmas.Bool.{and_parts}
 use Rattle.depot_model.specs.depot_path.Bytes.{same}
 use Rattle.depot_model.specs.depot_path.Path.{printed, is_path}
 use Rattle.depot_model.specs.spec_form.Form.{FormValue}
@@ -14,7 +15,7 @@ use Rattle.depot_model.specs.Deeds.{Deed, Spec, Guard, Group, Got, Tag, SpecKind
 use Rattle.depot_model.specs.Latest.{latest, when, have_said, label_said, spec_said, group_said, kind_word, same_kind}
 use Rattle.depot_model.specs.Records.{record_of, numbered_record, kind_of, kinds}
 use Rattle.depot_rows.specs.Effects.{put_at, have_row, label_row, form_row, group_row, grouped, guarded}
-use Rattle.depot_rows.proofs.Keys.{same-is, same-self, left-true, right-true, put-is}
+use Rattle.depot_rows.proofs.Keys.{same-is, same-self, put-is}
 use Rattle.depot_rows.proofs.Spelled.{at_path-here, at_path-alike}
 
 -- ---- have lists
@@ -36,8 +37,8 @@ module _ (client path : List ℕ) (rev : ℕ) (d : List Deed) where
     where
       go : (x : List ℕ) → printed x ≡ text → (b : Bool) → (same client c && same path x) ≡ b → have_in c text x (when b rev) ≡ have_in c text x None
       go x spelled true e = absurd (apart (
-          let one : client ≡ c = same-is client c (left-true (same client c) (same path x) e) in
-          let two : printed path ≡ text = ap printed (same-is path x (right-true (same client c) (same path x) e)) ∙ spelled in
+          let one : client ≡ c = same-is client c (and_parts (same client c) (same path x) e).0 in
+          let two : printed path ≡ text = ap printed (same-is path x (and_parts (same client c) (same path x) e).1) ∙ spelled in
           λ i. keys.Have (one i) (two i)))
       go x spelled false e = refl
   got_other _ apart = refl
@@ -63,8 +64,8 @@ module _ (label path : List ℕ) (rev : ℕ) (d : List Deed) where
     where
       go : (x : List ℕ) → printed x ≡ text → (b : Bool) → (same label l && same path x) ≡ b → label_in l text x (when b rev) ≡ label_in l text x None
       go x spelled true e = absurd (apart (
-          let one : label ≡ l = same-is label l (left-true (same label l) (same path x) e) in
-          let two : printed path ≡ text = ap printed (same-is path x (right-true (same label l) (same path x) e)) ∙ spelled in
+          let one : label ≡ l = same-is label l (and_parts (same label l) (same path x) e).0 in
+          let two : printed path ≡ text = ap printed (same-is path x (and_parts (same label l) (same path x) e).1) ∙ spelled in
           λ i. keys.Label (one i) (two i)))
       go x spelled false e = refl
   tag_other _ apart = refl
@@ -124,9 +125,9 @@ module _ (kind : SpecKind) (name : List ℕ) (form : FormValue) (d : List Deed) 
           test : (b : Bool) → (same_kind kind k && same name x) ≡ b → form_in word x (saved b k x) ≡ form_in word x (latest (spec_said k x) d)
           test true h = absurd (apart (
               let one : kind_word kind ≡ word =
-              same-is (kind_word kind) (kind_word k) (left-true (same_kind kind k) (same name x) h)
+              same-is (kind_word kind) (kind_word k) (and_parts (same_kind kind k) (same name x) h).0
               ∙ same-is (kind_word k) word (found_passes (λ y. same (kind_word y) word) kinds k e) in
-              let two : name ≡ x = same-is name x (right-true (same_kind kind k) (same name x) h) in
+              let two : name ≡ x = same-is name x (and_parts (same_kind kind k) (same name x) h).1 in
               λ i. keys.Domain (one i) (two i)))
           test false h = refl
   spec_other _ apart = refl

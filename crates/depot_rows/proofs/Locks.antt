@@ -2,11 +2,12 @@
 use Rattle.std.proofs.Common.{◌≡◌, ℕ, Bool, true, false, List, [], ◌∷◌, Option, Some, None, refl, ap, sym, ◌∙◌}
 use Rattle.std.specs.Prelude.{◌&&◌, is_some, if◌then◌else◌}
 use Rattle.std.specs.Option.{option_or, option_flatten}
+use Rattle.std.proofs.lemmas.Bool.{and_parts}
 use Rattle.depot_model.specs.depot_path.Bytes.{same}
 use Rattle.depot_model.specs.Deeds.{Deed, Spec, Guard, Group, Count, Pend, Drop, Open, Shut, Hold, Free, Got, Tag, Owe, Paid, Land, Opening}
 use Rattle.depot_model.specs.Latest.{latest, when, is_held}
 use Rattle.depot_model.specs.Opened.{opened, opening_said, holder, keeps}
-use Rattle.depot_rows.proofs.Keys.{same-is, left-true, right-true}
+use Rattle.depot_rows.proofs.Keys.{same-is}
 
 -- 1 for who has the lock
 abbrev pub lock_number : Option (List ℕ) → List ℕ → ℕ
@@ -115,8 +116,8 @@ opened-is (Open x ∷ d) c p o e = go (same x.client c && same x.path p) refl e 
         → (opened d c p ≡ Some o → IsOf c p o) → IsOf c p o
     go true h f before =
         let back : o ≡ x = sym (some-is f) in (
-          ap (λ (y : Opening). y.client) back ∙ same-is x.client c (left-true (same x.client c) (same x.path p) h),
-          ap (λ (y : Opening). y.path) back ∙ same-is x.path p (right-true (same x.client c) (same x.path p) h),
+          ap (λ (y : Opening). y.client) back ∙ same-is x.client c (and_parts (same x.client c) (same x.path p) h).0,
+          ap (λ (y : Opening). y.path) back ∙ same-is x.path p (and_parts (same x.client c) (same x.path p) h).1,
         )
     go false h f before = before f
 opened-is (Shut held ∷ d) c p o e = go (is_held c p held) e (opened-is d c p o)

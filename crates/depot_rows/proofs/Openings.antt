@@ -2,7 +2,7 @@
 use Rattle.std.proofs.Common.{◌≡◌, ◌≢◌, ℕ, Bool, true, false, List, [], ◌∷◌, Option, Some, None, refl, sym, ap, ◌∙◌}
 use Rattle.std.specs.Prelude.{◌&&◌, is_some, if◌then◌else◌, option_map}
 use Rattle.std.specs.Option.{option_or, option_flatten}
-use Rattle.std.proofs.lemmas.Bool.{true≢false}
+use Rattle.std.proofs.lemmas.Bool.{true≢false, and_parts}
 use Rattle.depot_model.specs.depot_path.Bytes.{same}
 use Rattle.depot_model.specs.depot_path.Path.{printed, is_path}
 use Rattle.depot_model.specs.db_records.declared.key.Key.{Key}
@@ -20,7 +20,7 @@ use Rattle.depot_rows.specs.declared.deed.Source.{Source as Taken}
 use Rattle.depot_rows.specs.declared.deed.Held.{Held as File}
 use Rattle.depot_rows.specs.Deed.{opening_of, held_of}
 use Rattle.depot_rows.specs.Effects.{put_at, changed_at, working_key, working_row, with_lock, locked, ended}
-use Rattle.depot_rows.proofs.Keys.{same-is, same-self, left-true, right-true, put-is}
+use Rattle.depot_rows.proofs.Keys.{same-is, same-self, put-is}
 use Rattle.depot_model.specs.Records.{at_path}
 use Rattle.depot_rows.proofs.Spelled.{at_path-here, at_path-alike}
 use Rattle.depot_rows.proofs.Locks.{lock_number, lock-keeps, lock-given, lock-unopened, IsOf, opened-is}
@@ -117,8 +117,8 @@ module _ (o : Opening) (d : List Deed) where
       go : (x : List ℕ) → printed x ≡ text → (b : Bool) → (same o.client c && same o.path x) ≡ b
           → opened_row (holder d x) c (option_flatten (option_or (when b (Some o)) (latest (opening_said c x) d))) ≡ opened_row (holder d x) c (opened d c x)
       go x spelled true e = absurd (apart (
-          let one : o.client ≡ c = same-is o.client c (left-true (same o.client c) (same o.path x) e) in
-          let two : printed o.path ≡ text = ap printed (same-is o.path x (right-true (same o.client c) (same o.path x) e)) ∙ spelled in
+          let one : o.client ≡ c = same-is o.client c (and_parts (same o.client c) (same o.path x) e).0 in
+          let two : printed o.path ≡ text = ap printed (same-is o.path x (and_parts (same o.client c) (same o.path x) e).1) ∙ spelled in
           λ i. keys.Working (two i) (one i)))
       go x spelled false e = refl
   open_other _ apart = refl
@@ -171,8 +171,8 @@ module _ (held : File) (d : List Deed) where
       go : (b : Bool) → (same client c && same path x) ≡ b → b ≡ false
       go false f = refl
       go true f = absurd (true≢false (
-          let one : same client c ≡ true = left-true (same client c) (same path x) f in
-          let two : printed path ≡ text = ap printed (same-is path x (right-true (same client c) (same path x) f)) ∙ spelled in
+          let one : same client c ≡ true = (and_parts (same client c) (same path x) f).0 in
+          let two : printed path ≡ text = ap printed (same-is path x (and_parts (same client c) (same path x) f).1) ∙ spelled in
           let three : same (printed path) text ≡ true = ap (λ (t : List ℕ). same (printed path) t) (sym two) ∙ same-self (printed path) in
           (λ i. (sym three i) && (sym one i)) ∙ e))
 
@@ -186,8 +186,8 @@ module _ (held : File) (d : List Deed) where
       go : (b : Bool) → (same (printed path) text && same client c) ≡ b
           → record_of shut (keys.Working text c) ≡ (if b then None else record_of d (keys.Working text c))
       go true e =
-          let one : printed path ≡ text = same-is (printed path) text (left-true (same (printed path) text) (same client c) e) in
-          let two : same client c ≡ true = right-true (same (printed path) text) (same client c) e in
+          let one : printed path ≡ text = same-is (printed path) text (and_parts (same (printed path) text) (same client c) e).0 in
+          let two : same client c ≡ true = (and_parts (same (printed path) text) (same client c) e).1 in
           ap (λ (t : List ℕ). record_of shut (keys.Working t c)) (sym one) ∙ working_here shut path c is
           ∙ gone (same client c && same path path) (rw (two, same-self path) refl)
       go false e = working_alike shut d text c (λ x spelled. shut_there c x (same client c) (same path x) refl (apart_at c x text spelled e))

@@ -1,7 +1,7 @@
 -- Owed and paid resolves after a deed that speaks of them.
 use Rattle.std.proofs.Common.{◌≡◌, ◌≢◌, ℕ, Bool, true, false, List, ◌∷◌, Option, Some, None, refl, sym, ap, ◌∙◌}
 use Rattle.std.specs.Prelude.{◌&&◌, if◌then◌else◌, option_map}
-use Rattle.std.proofs.lemmas.Bool.{true≢false}
+use Rattle.std.proofs.lemmas.Bool.{true≢false, and_parts}
 use Rattle.depot_model.specs.depot_path.Bytes.{same}
 use Rattle.depot_model.specs.depot_path.Path.{printed, is_path}
 use Rattle.depot_model.specs.db_records.declared.key.Key.{Key}
@@ -16,7 +16,7 @@ use Rattle.depot_rows.specs.declared.deed.Held.{Held}
 use Rattle.depot_rows.specs.declared.deed.How.{How}
 use Rattle.depot_rows.specs.Deed.{owing_of, held_of, how_of}
 use Rattle.depot_rows.specs.Effects.{put_at, changed_at, owed_key, owed_row, paid_key, with_how, ended}
-use Rattle.depot_rows.proofs.Keys.{same-is, same-self, left-true, right-true, put-is}
+use Rattle.depot_rows.proofs.Keys.{same-is, same-self, put-is}
 use Rattle.depot_rows.proofs.Spelled.{at_path-here, at_path-alike, at_path-nothing}
 use Rattle.depot_rows.proofs.Openings.{shut_working}
 
@@ -154,16 +154,16 @@ module _ (held : Held) (d : List Deed) where
           test : (b : Bool) → (same held.client c && same held.path x) ≡ b → b ≡ false
           test false f = refl
           test true f = absurd (true≢false (
-              let one : same held.client c ≡ true = left-true (same held.client c) (same held.path x) f in
-              let two : printed held.path ≡ text = ap printed (same-is held.path x (right-true (same held.client c) (same held.path x) f)) ∙ spelled in
+              let one : same held.client c ≡ true = (and_parts (same held.client c) (same held.path x) f).0 in
+              let two : printed held.path ≡ text = ap printed (same-is held.path x (and_parts (same held.client c) (same held.path x) f).1) ∙ spelled in
               let three : same (printed held.path) text ≡ true = ap (same (printed held.path)) (sym two) ∙ same-self (printed held.path) in
               (λ i. (sym one i) && (sym three i)) ∙ e))
 
       go : (b : Bool) → (same held.client c && same (printed held.path) text) ≡ b
           → record_of shut (keys.Resolve c text from) ≡ (if b then None else record_of d (keys.Resolve c text from))
       go true e =
-          let one : same held.client c ≡ true = left-true (same held.client c) (same (printed held.path) text) e in
-          let two : printed held.path ≡ text = same-is (printed held.path) text (right-true (same held.client c) (same (printed held.path) text) e) in
+          let one : same held.client c ≡ true = (and_parts (same held.client c) (same (printed held.path) text) e).0 in
+          let two : printed held.path ≡ text = same-is (printed held.path) text (and_parts (same held.client c) (same (printed held.path) text) e).1 in
           ap (λ (t : List ℕ). record_of shut (keys.Resolve c t from)) (sym two)
           ∙ at_path-here held.path (λ x. at_path from (λ y. resolve_row shut c x y)) is
           ∙ at_path-alike from (λ y. resolve_row shut c held.path y) (λ y. None)

@@ -2,6 +2,7 @@
 use Rattle.std.proofs.Common.{◌≡◌, ◌+◌, ℕ, suc, true, false, List, [], ◌∷◌, length, map, Option, Some, None, refl, sym, ap, subst, ◌∙◌}
 use Rattle.std.specs.Prelude.{option_map, is_some, slice_get}
 use Rattle.std.specs.List.{list_all}
+use Rattle.std.proofs.lemmas.Bool.{and_parts}
 use Rattle.depot_model.specs.depot_path.Path.{printed, is_path}
 use Rattle.depot_model.specs.db_records.declared.key.Key.TheVariants as keys
 use Rattle.depot_model.specs.Deeds as model
@@ -14,7 +15,6 @@ use Rattle.depot_rows.specs.declared.deed.Deed.TheVariants.{Land}
 use Rattle.depot_rows.specs.declared.deed.Entry.{Entry}
 use Rattle.depot_rows.specs.Deed.{IsDeed, IsEntry, AreEntries, IsLanding}
 use Rattle.depot_rows.specs.Effects.{effect, May, Follow, entry_path}
-use Rattle.depot_rows.proofs.Keys.{left-true, right-true}
 use Rattle.depot_rows.proofs.Spelled.{at_path-here}
 use Rattle.depot_rows.proofs.Following.{met, stays_apart}
 
@@ -45,7 +45,7 @@ module _ (d e : List model.Deed) (same : SameRows d e) where
   entries_same (y ∷ ys) [] are paths = absurd are
   entries_same (y ∷ ys) (x ∷ xs) are paths =
       let is : IsEntry d y x = are.0 in
-      let path : is_path x.path ≡ true = ap is_path (sym is.path) ∙ left-true (is_path y.path) (list_all is_path (map entry_path ys)) paths in (
+      let path : is_path x.path ≡ true = ap is_path (sym is.path) ∙ (and_parts (is_path y.path) (list_all is_path (map entry_path ys)) paths).0 in (
         record {
           path = is.path;
           rev = is.rev ∙ ap (λ (n : ℕ). n + 1) (head_same x.path path);
@@ -55,7 +55,7 @@ module _ (d e : List model.Deed) (same : SameRows d e) where
           credits = is.credits;
           moved = is.moved;
         },
-        entries_same ys xs are.1 (right-true (is_path y.path) (list_all is_path (map entry_path ys)) paths),
+        entries_same ys xs are.1 (and_parts (is_path y.path) (list_all is_path (map entry_path ys)) paths).1,
       )
 
   deed_same : (done : Deed) (deed : model.Deed) → IsDeed d done deed → May done (record_of d) → IsDeed e done deed

@@ -4,6 +4,7 @@ use Rattle.std.proofs.Common.{◌≡◌, ℕ, Bool, true, false, List, [], ◌�
 use Rattle.std.specs.Prelude.{◌&&◌, unwrap_or}
 use Rattle.std.specs.List.{list_all}
 use Rattle.std.specs.Option.{option_or, option_flatten}
+use Rattle.std.proofs.lemmas.Bool.{and_parts}
 use Rattle.depot_rows.specs.depot_path.Bytes.{same}
 use Rattle.depot_rows.specs.depot_model.declared.request.Caller.{Caller}
 use Rattle.depot_rows.specs.depot_model.Asking.{may_at}
@@ -14,7 +15,6 @@ use Rattle.depot_rows.specs.depot_model.Latest.{have, have_said, labelled, lates
 use Rattle.depot_rows.specs.depot_model.Opened.{opened, opening_said}
 use Rattle.depot_rows.specs.depot_model.Revisions.{revisions, credited}
 use Rattle.depot_rows.specs.depot_model.Step.{after}
-use Rattle.depot_rows.proofs.Keys.{left-true, right-true}
 use Rattle.row_reads.proofs.Rights.{same_at}
 use Rattle.step_tables.specs.DeedTables.{stays_in}
 use Rattle.depot_facts.specs.Contents.{seen}
@@ -135,5 +135,5 @@ grown d e (Land l) in_files alike = absurd cc
 pub all_grown : (d e deeds : List Deed) → list_all (stays_in file_tables) deeds ≡ true → Alike d e → Alike (after d deeds) (after e deeds)
 all_grown d e [] in_files alike = alike
 all_grown d e (deed ∷ deeds) in_files alike =
-    all_grown (deed ∷ d) (deed ∷ e) deeds (right-true (stays_in file_tables deed) (list_all (stays_in file_tables) deeds) in_files)
-    (grown d e deed (left-true (stays_in file_tables deed) (list_all (stays_in file_tables) deeds) in_files) alike)
+    all_grown (deed ∷ d) (deed ∷ e) deeds (and_parts (stays_in file_tables deed) (list_all (stays_in file_tables) deeds) in_files).1
+    (grown d e deed (and_parts (stays_in file_tables deed) (list_all (stays_in file_tables) deeds) in_files).0 alike)

@@ -2,7 +2,7 @@
 use Rattle.std.proofs.Common.{◌≡◌, ℕ, true, false, List, [], ◌∷◌, length, Option, Some, None, refl, sym, ap, ◌∙◌}
 use Rattle.std.specs.Prelude.{◌||◌, is_some, nat_lt, option_and_then}
 use Rattle.std.specs.List.{list_all}
-use Rattle.std.proofs.lemmas.Bool.{true≢false}
+use Rattle.std.proofs.lemmas.Bool.{true≢false, and_parts}
 use Rattle.depot_rows.specs.depot_path.Bytes.{same}
 use Rattle.depot_rows.specs.depot_path.Path.{is_path}
 use Rattle.depot_rows.specs.spec_form.Form.{FormValue}
@@ -11,7 +11,7 @@ use Rattle.depot_rows.specs.depot_model.Deeds.{Deed, ShelfForm}
 use Rattle.depot_rows.specs.depot_model.Latest.{when, spec}
 use Rattle.depot_rows.specs.depot_model.Rules.{IsSound}
 use Rattle.depot_rows.specs.depot_model.Shelves.{shelf_name, is_kept, kept, shelf_paths, kept_paths, is_shelved}
-use Rattle.depot_rows.proofs.Keys.{same-self, left-true, right-true}
+use Rattle.depot_rows.proofs.Keys.{same-self}
 use Rattle.depot_facts.proofs.Found.{shelf_among}
 use Rattle.depots_alike.proofs.Lists.{has, one_path_list, some_paths_rise, has_filter}
 use Rattle.depot_facts.proofs.PathsTold.{kept_are, shelf_told}
@@ -23,8 +23,8 @@ use Rattle.depot_facts.proofs.Listed.{any_of}
 
 absent : (xs : List (List ℕ)) (z : List ℕ) → list_all is_path xs ≡ true → is_path z ≡ false → has xs z ≡ false
 absent [] z all nowhere = refl
-absent (x ∷ xs) z all nowhere = λ i. (same_turned z x ∙ other_path x z (left-true (is_path x) (list_all is_path xs) all) nowhere) i
-    || absent xs z (right-true (is_path x) (list_all is_path xs) all) nowhere i
+absent (x ∷ xs) z all nowhere = λ i. (same_turned z x ∙ other_path x z (and_parts (is_path x) (list_all is_path xs) all).0 nowhere) i
+    || absent xs z (and_parts (is_path x) (list_all is_path xs) all).1 nowhere i
 
 module _ (d : List Deed) (sound : IsSound d) (n : ℕ) where
   not_kept : (z : List ℕ) → is_path z ≡ true → has (paths_of (shelf_paths n) d) z ≡ false → is_some (kept d n z) ≡ false

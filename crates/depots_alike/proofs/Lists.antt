@@ -6,12 +6,13 @@ use Rattle.std.specs.Ordering.{is_lt, is_eq, nat_cmp}
 use Rattle.std.specs.declared.cmp.Ordering.TheVariants.{Equal}
 use Rattle.std.specs.Cmp.Lexicographic.{slice_cmp, texts_ties}
 use Rattle.std.proofs.lemmas.Cmp.{nat_list_cmp_total, on_total}
+use Rattle.std.proofs.lemmas.Bool.{and_parts}
 use Rattle.depot_rows.specs.depot_path.Bytes.{same}
 use Rattle.depot_rows.specs.depot_path.Order.{path_cmp}
 use Rattle.depot_rows.specs.depot_path.Path.{path_of, printed, is_path}
 use Rattle.depot_rows.proofs.depot_path.Paths.{prints_path}
 use Rattle.depot_rows.specs.depot_model.Sorted.{inserted, path_inserted, all_inserted}
-use Rattle.depot_rows.proofs.Keys.{same-is, same-self, left-true, right-true}
+use Rattle.depot_rows.proofs.Keys.{same-is, same-self}
 use Rattle.depots_alike.proofs.Ordered.{IsOrder, Rise, one_list, put, put_rises, has_put, filter_rises, has_filter as has_what_passes}
 
 abbrev pub has : List (List ℕ) → List ℕ → Bool
@@ -59,8 +60,8 @@ has_all_inserted z (p ∷ more) ps =
 pub all_inserted_rises : (more ps : List (List ℕ)) → list_all is_path more ≡ true → PathsRise ps → PathsRise (all_inserted more ps)
 all_inserted_rises [] ps all rise = rise
 all_inserted_rises (p ∷ more) ps all rise =
-    path_inserted_rises p (all_inserted more ps) (left-true (is_path p) (list_all is_path more) all)
-    (all_inserted_rises more ps (right-true (is_path p) (list_all is_path more) all) rise)
+    path_inserted_rises p (all_inserted more ps) (and_parts (is_path p) (list_all is_path more) all).0
+    (all_inserted_rises more ps (and_parts (is_path p) (list_all is_path more) all).1 rise)
 
 -- ---- names, in the order of bytes
 

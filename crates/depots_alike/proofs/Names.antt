@@ -2,7 +2,7 @@
 use Rattle.std.proofs.Common.{◌≡◌, ℕ, Bool, true, false, List, [], ◌∷◌, Option, Some, None, refl, sym, ap, ◌∙◌}
 use Rattle.std.specs.Prelude.{◌&&◌, ◌||◌, if◌then◌else◌, codes, filter, filter_map, is_some, option_map}
 use Rattle.std.specs.Option.{option_or, option_map_or, option_flatten}
-use Rattle.std.proofs.lemmas.Bool.{true≢false}
+use Rattle.std.proofs.lemmas.Bool.{true≢false, or_parts}
 use Rattle.depot_rows.specs.depot_path.Bytes.{same}
 use Rattle.depot_rows.specs.depot_model.Arguments.{paths_of, open_paths}
 use Rattle.depot_rows.specs.depot_model.Deeds.{Deed, Open, Shut, Spec, Count, SpecKind}
@@ -14,7 +14,6 @@ use Rattle.depot_rows.specs.depot_model.Step.{tells}
 use Rattle.depot_rows.specs.depot_model.Steps.Counters.{counter_of, counter_row, counters, above_zero}
 use Rattle.depot_rows.specs.depot_model.Steps.Opening.{openers, opener_of}
 use Rattle.depots_alike.proofs.Lists.{has, NamesRise, one_name_list, some_names_rise, has_inserted, inserted_rises, has_filter}
-use Rattle.depot_facts.proofs.Tests.{either_false}
 use Rattle.depots_alike.proofs.Paths.{same_turned, only_test, not_opened}
 use Rattle.depots_alike.proofs.Searches.{spec_same, counter_same}
 use Rattle.depots_alike.proofs.Twins.{Twins}
@@ -61,7 +60,7 @@ not_opener path z (Open o ∷ d) e = go (same o.path path) e (not_opener path z 
         → (has (keys_of (opener_of path) d) z ≡ false → opened d z path ≡ None)
         → option_flatten (option_or (when (same o.client z && b) (Some o)) (latest (opening_said z path) d)) ≡ None
     go true f later =
-        let parts = either_false (same z o.client) (has (keys_of (opener_of path) d) z) (sym (has_inserted z o.client (keys_of (opener_of path) d)) ∙ f) in
+        let parts = or_parts (same z o.client) (has (keys_of (opener_of path) d) z) (sym (has_inserted z o.client (keys_of (opener_of path) d)) ∙ f) in
         kept (same o.client z) (same_turned o.client z ∙ parts.0) (later parts.1)
     go false f later = apart (same o.client z) ∙ later f
 not_opener path z (Shut held ∷ d) e = go (same held.client z && same held.path path) (not_opener path z d e)
@@ -92,7 +91,7 @@ no_openers d path e = none_kept (λ client. is_some (opened d client path)) (λ 
 not_counted : (z : List ℕ) (d : List Deed) → has (keys_of count_name d) z ≡ false → latest (count_said z) d ≡ None
 not_counted z [] e = refl
 not_counted z (Count n value ∷ d) e =
-    let parts = either_false (same z n) (has (keys_of count_name d) z) (sym (has_inserted z n (keys_of count_name d)) ∙ e) in
+    let parts = or_parts (same z n) (has (keys_of count_name d) z) (sym (has_inserted z n (keys_of count_name d)) ∙ e) in
     go (same n z) (same_turned n z ∙ parts.0) (not_counted z d parts.1)
   where
     go : (b : Bool) → b ≡ false → latest (count_said z) d ≡ None → option_or (when b value) (latest (count_said z) d) ≡ None
@@ -106,7 +105,7 @@ counter_names d = filter (λ name. is_some (counter_of d name)) (inserted (codes
 counter_has : (d : List Deed) (z : List ℕ) → has (counter_names d) z ≡ is_some (counter_of d z)
 counter_has d z = has_filter (λ name. is_some (counter_of d name)) (inserted (codes "change") (keys_of count_name d)) z
     ∙ only_test (has (inserted (codes "change") (keys_of count_name d)) z) (is_some (counter_of d z))
-    (λ e. let parts = either_false (same z (codes "change")) (has (keys_of count_name d) z) (sym (has_inserted z (codes "change") (keys_of count_name d)) ∙ e) in
+    (λ e. let parts = or_parts (same z (codes "change")) (has (keys_of count_name d) z) (sym (has_inserted z (codes "change") (keys_of count_name d)) ∙ e) in
     (λ i. is_some (if parts.0 i then above_zero (top d) else option_flatten (not_counted z d parts.1 i))))
 
 -- only what gives something counts

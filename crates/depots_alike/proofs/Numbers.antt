@@ -6,7 +6,7 @@ use Rattle.std.specs.Option.{option_or, option_flatten}
 use Rattle.std.specs.Ordering.{is_lt, nat_cmp}
 use Rattle.std.specs.Cmp.{IsTotalOrder}
 use Rattle.std.specs.declared.cmp.Ordering.TheVariants.{Less, Equal, Greater}
-use Rattle.std.proofs.lemmas.Bool.{true≢false, eqb-true, eq-eqb}
+use Rattle.std.proofs.lemmas.Bool.{true≢false, eqb-true, eq-eqb, or_parts}
 use Rattle.std.proofs.lemmas.Cmp.{nat_cmp_total}
 use Rattle.depot_rows.specs.depot_model.declared.command.FileArgument.{FileArgument}
 use Rattle.depot_rows.specs.depot_model.declared.refusal.Refusal.TheVariants.{NoSuchFile}
@@ -25,7 +25,6 @@ use Rattle.depots_alike.proofs.Changes.{files_of_change_same}
 use Rattle.depots_alike.proofs.Choosing.{may_list_same, revision_same}
 use Rattle.depots_alike.proofs.Files.{named_submitted}
 use Rattle.depots_alike.proofs.Names.{only_some}
-use Rattle.depot_facts.proofs.Tests.{either_false}
 use Rattle.depots_alike.proofs.Ordered.{IsOrder, Rise, one_list, put, put_rises, has_put, filter_rises, has_filter}
 use Rattle.depots_alike.proofs.Ranges.{in_range_same}
 use Rattle.depots_alike.proofs.Searches.{pending_same, landing_same}
@@ -96,7 +95,7 @@ equal_turned m n = go (m == n) refl (n == m) refl
     go false e true f = absurd (true≢false (sym (eq-eqb m n (sym (eqb-true n m f))) ∙ e))
 
 parts_of : (z n : ℕ) (ns : List ℕ) → has (number_inserted n ns) z ≡ false → ((n == z) ≡ false) × (has ns z ≡ false)
-parts_of z n ns e = let parts = either_false (z == n) (has ns z) (sym (has_inserted z n ns) ∙ e) in (equal_turned n z ∙ parts.0, parts.1)
+parts_of z n ns e = let parts = or_parts (z == n) (has ns z) (sym (has_inserted z n ns) ∙ e) in (equal_turned n z ∙ parts.0, parts.1)
 
 not_pending : (z : ℕ) (d : List Deed) → has (numbers d) z ≡ false → pending d z ≡ None
 not_pending z [] e = refl

@@ -3,7 +3,7 @@ use Rattle.std.proofs.Common.{◌≡◌, ℕ, Bool, true, false, not, List, [], 
 use Rattle.std.specs.Prelude.{◌&&◌, ◌||◌, ◌==◌, if◌then◌else◌, filter, is_some, unwrap_or}
 use Rattle.std.specs.List.{list_all}
 use Rattle.std.specs.Option.{option_or, option_flatten}
-use Rattle.std.proofs.lemmas.Bool.{true≢false}
+use Rattle.std.proofs.lemmas.Bool.{true≢false, or_parts, and_parts}
 use Rattle.depot_rows.specs.depot_path.Bytes.{same}
 use Rattle.depot_rows.specs.depot_path.Path.{is_path}
 use Rattle.depot_rows.specs.depot_model.Arguments.{paths_of, landed_paths, got_paths, open_paths, submitted, had, opened_by}
@@ -12,9 +12,8 @@ use Rattle.depot_rows.specs.depot_model.Latest.{latest, when, have, have_said}
 use Rattle.depot_rows.specs.depot_model.Opened.{opened, opening_said}
 use Rattle.depot_rows.specs.depot_model.Revisions.{Revision, revisions, entries_at}
 use Rattle.depot_rows.specs.depot_model.Rules.{has_paths}
-use Rattle.depot_rows.proofs.Keys.{same-is, same-self, left-true, right-true}
+use Rattle.depot_rows.proofs.Keys.{same-is, same-self}
 use Rattle.depot_facts.proofs.PathsTold.{got_told, landed_told, open_told}
-use Rattle.depot_facts.proofs.Tests.{either_false}
 use Rattle.depots_alike.proofs.Lists.{has, PathsRise, one_path_list, some_paths_rise, has_all_inserted, all_inserted_rises, has_filter}
 use Rattle.depots_alike.proofs.Searches.{have_same, opened_same, head_same}
 use Rattle.depots_alike.proofs.Twins.{Twins}
@@ -25,8 +24,8 @@ pub paths_rise : (reading : Deed → List (List ℕ)) → ((deed : Deed) → has
     → list_all has_paths d ≡ true → PathsRise (paths_of reading d)
 paths_rise reading are [] paths = tt
 paths_rise reading are (deed ∷ d) paths =
-    all_inserted_rises (reading deed) (paths_of reading d) (are deed (left-true (has_paths deed) (list_all has_paths d) paths))
-    (paths_rise reading are d (right-true (has_paths deed) (list_all has_paths d) paths))
+    all_inserted_rises (reading deed) (paths_of reading d) (are deed (and_parts (has_paths deed) (list_all has_paths d) paths).0)
+    (paths_rise reading are d (and_parts (has_paths deed) (list_all has_paths d) paths).1)
 
 -- ---- what is in them
 
@@ -90,9 +89,9 @@ not_got : (client p : List ℕ) (d : List Deed) → has (paths_of (got_paths cli
 not_got client p [] e = refl
 not_got client p (Got held rev ∷ d) e =
     go (same held.client client) (same held.path p) refl
-    (either_false (has (got_paths client (Got held rev)) p) (has (paths_of (got_paths client) d) p)
+    (or_parts (has (got_paths client (Got held rev)) p) (has (paths_of (got_paths client) d) p)
     (sym (has_all_inserted p (got_paths client (Got held rev)) (paths_of (got_paths client) d)) ∙ e)).0
-    (not_got client p d (either_false (has (got_paths client (Got held rev)) p) (has (paths_of (got_paths client) d) p)
+    (not_got client p d (or_parts (has (got_paths client (Got held rev)) p) (has (paths_of (got_paths client) d) p)
     (sym (has_all_inserted p (got_paths client (Got held rev)) (paths_of (got_paths client) d)) ∙ e)).1)
   where
     go : (a b : Bool) → same held.path p ≡ b → has (if a then held.path ∷ [] else []) p ≡ false → latest (have_said client p) d ≡ None
@@ -106,8 +105,8 @@ pub not_opened : (client p : List ℕ) (d : List Deed) → has (paths_of open_pa
 not_opened client p [] e = refl
 not_opened client p (Open o ∷ d) e =
     go (same o.client client) (same o.path p) refl
-    (either_false (has (open_paths (Open o)) p) (has (paths_of open_paths d) p) (sym (has_all_inserted p (open_paths (Open o)) (paths_of open_paths d)) ∙ e)).0
-    (not_opened client p d (either_false (has (open_paths (Open o)) p) (has (paths_of open_paths d) p)
+    (or_parts (has (open_paths (Open o)) p) (has (paths_of open_paths d) p) (sym (has_all_inserted p (open_paths (Open o)) (paths_of open_paths d)) ∙ e)).0
+    (not_opened client p d (or_parts (has (open_paths (Open o)) p) (has (paths_of open_paths d) p)
     (sym (has_all_inserted p (open_paths (Open o)) (paths_of open_paths d)) ∙ e)).1)
   where
     go : (a b : Bool) → same o.path p ≡ b → has (o.path ∷ []) p ≡ false → opened d client p ≡ None

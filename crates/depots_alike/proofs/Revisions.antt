@@ -2,7 +2,7 @@
 use Rattle.std.proofs.Common.{◌≡◌, ℕ, zero, suc, ◌⊎◌, inl, inr, Bool, true, false, cond, List, [], ◌∷◌, ◌++◌, map, Option, Some, None, refl, sym, ap, ◌∙◌, subst, arith}
 use Rattle.std.specs.Prelude.{if◌then◌else◌, ◌&&◌, ◌==◌, codes, Contains, IfSome, IsSomeAnd, find, filter, flat_map, option_map, option_and_then, slice_get, unwrap_or}
 use Rattle.std.specs.List.{list_all}
-use Rattle.std.proofs.lemmas.Bool.{true≢false}
+use Rattle.std.proofs.lemmas.Bool.{true≢false, and_parts}
 use Rattle.std.proofs.lemmas.List.Folds.{list_all-append}
 use Rattle.depot_rows.specs.depot_path.Bytes.{same}
 use Rattle.depot_rows.specs.depot_path.Path.{printed, is_path}
@@ -15,7 +15,7 @@ use Rattle.depot_rows.specs.depot_model.Records.{record_of, rev_record, pending_
 use Rattle.depot_rows.specs.depot_model.Revisions.{Revision, revisions, revision, entries_at}
 use Rattle.depot_rows.specs.depot_model.Rules.{IsSound, IsSubmitted, IsRow, has_paths, entry_paths, path_or_none, change_of}
 use Rattle.depot_rows.specs.depot_model.Steps.Submitting.{content_at}
-use Rattle.depot_rows.proofs.Keys.{number-is, same-is, left-true, right-true}
+use Rattle.depot_rows.proofs.Keys.{number-is, same-is}
 use Rattle.depot_rows.proofs.Spelled.{at_path-here}
 use Rattle.depot_facts.specs.Contents.{bare, seen}
 use Rattle.depot_facts.proofs.Nowhere.{no_revisions}
@@ -41,13 +41,13 @@ IsEntryOf path e = (e.path ≡ path) × IfSome e.moved (λ p. is_path p ≡ true
 moved_path : (path : List ℕ) (moved : Option (List ℕ)) (rest : List (List ℕ)) → list_all is_path (path ∷ path_or_none moved ++ rest) ≡ true
     → IfSome moved (λ p. is_path p ≡ true)
 moved_path path None rest e = tt
-moved_path path (Some p) rest e = left-true (is_path p) _ (right-true (is_path path) _ e)
+moved_path path (Some p) rest e = (and_parts (is_path p) _ (and_parts (is_path path) _ e).1).0
 
 all_of : (l : Landing) (path : List ℕ) (es : List Entry) (n : ℕ) (r : Revision) → list_all is_path (flat_map entry_paths es) ≡ true
     → slice_get (map (made l) (filter (λ (x : Entry). same x.path path) es)) n ≡ Some r → (l ≡ r.landing) × IsEntryOf path r.entry
 all_of l path [] n r all e = absurd cc
 all_of l path (x ∷ es) n r all e =
-    go (same x.path path) refl n e (λ m h. all_of l path es m r (right-true (list_all is_path (entry_paths x)) (list_all is_path (flat_map entry_paths es)) parts) h)
+    go (same x.path path) refl n e (λ m h. all_of l path es m r (and_parts (list_all is_path (entry_paths x)) (list_all is_path (flat_map entry_paths es)) parts).1 h)
   where
     parts : (list_all is_path (entry_paths x) && list_all is_path (flat_map entry_paths es)) ≡ true
     parts = sym (list_all-append is_path (entry_paths x) (flat_map entry_paths es)) ∙ all
@@ -60,7 +60,7 @@ all_of l path (x ∷ es) n r all e =
           (
             same-is x.path path k,
             moved_path x.path x.moved (map (λ (c : Credit). c.from) x.credits)
-                (left-true (list_all is_path (entry_paths x)) (list_all is_path (flat_map entry_paths es)) parts),
+                (and_parts (list_all is_path (entry_paths x)) (list_all is_path (flat_map entry_paths es)) parts).0,
           ),
         )
 
@@ -82,17 +82,17 @@ landed : (d : List Deed) → list_all has_paths d ≡ true → (path : List ℕ)
     → Contains (landings d) r.landing × IsEntryOf path r.entry
 landed [] paths path n r e = absurd cc
 landed (Land l ∷ d) paths path n r e =
-    go (either (revisions d path) (entries_at path l) n r e) (λ h. landed d (right-true (has_paths (Land l)) (list_all has_paths d) paths) path n r h)
+    go (either (revisions d path) (entries_at path l) n r e) (λ h. landed d (and_parts (has_paths (Land l)) (list_all has_paths d) paths).1 path n r h)
   where
     go : (slice_get (revisions d path) n ≡ Some r) ⊎ ((k : ℕ) × (slice_get (entries_at path l) k ≡ Some r))
         → (slice_get (revisions d path) n ≡ Some r → Contains (landings d) r.landing × IsEntryOf path r.entry)
         → Contains (l ∷ landings d) r.landing × IsEntryOf path r.entry
     go (inl h) before = (behind l (landings d) r.landing (before h).0, (before h).1)
     go (inr h) before =
-        let is = all_of l path l.entries h.0 r (left-true (has_paths (Land l)) (list_all has_paths d) paths) h.1 in
+        let is = all_of l path l.entries h.0 r (and_parts (has_paths (Land l)) (list_all has_paths d) paths).0 h.1 in
         let P : Landing → Type 0 = λ x. Contains (l ∷ landings d) x in
         (subst P is.0 (first l (landings d)), is.1)
-landed (deed ∷ d) paths path n r e = landed d (right-true (has_paths deed) (list_all has_paths d) paths) path n r e
+landed (deed ∷ d) paths path n r e = landed d (and_parts (has_paths deed) (list_all has_paths d) paths).1 path n r e
 
 one_landing : (l m : Landing) → Some l ≡ Some m → l ≡ m
 one_landing l m e = cc

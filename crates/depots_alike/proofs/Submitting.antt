@@ -3,7 +3,7 @@ use Rattle.std.proofs.Common.{◌≡◌, ℕ, ◌+◌, Bool, true, false, not, L
 use Rattle.std.specs.Prelude.{◌&&◌, ◌||◌, ◌==◌, nat_lt, codes, if◌then◌else◌, filter, filter_map, flat_map, is_some, option_map}
 use Rattle.std.specs.List.{list_any, list_all}
 use Rattle.std.specs.Option.{option_map_or}
-use Rattle.std.proofs.lemmas.Bool.{true≢false}
+use Rattle.std.proofs.lemmas.Bool.{true≢false, or_parts, and_parts}
 use Rattle.depot_rows.specs.depot_path.Bytes.{same}
 use Rattle.depot_rows.specs.depot_path.Path.{is_path}
 use Rattle.depot_rows.specs.spec_form.Form.{FormValue}
@@ -23,11 +23,9 @@ use Rattle.depot_rows.specs.depot_model.Rows.{row, path_field, number_field, tex
 use Rattle.depot_rows.specs.depot_model.Rules.{has_paths}
 use Rattle.depot_rows.specs.depot_model.Step.{unless, refuse_if}
 use Rattle.depot_rows.specs.depot_model.Steps.Submitting.{owed_from, resolves_of, is_unpaid, credit_of, lock_refusal, is_in_change, move_refusal, file_refusals, landing_number, move_credits, entry_of, landing_of, got_and_shut, dropped, file_row, landed, submit, submit_default, submit_change}
-use Rattle.depot_rows.proofs.Keys.{right-true}
 use Rattle.depots_alike.proofs.Changes.{openings_same, fixes_of_same, closes_same}
 use Rattle.depots_alike.proofs.Lists.{has, one_path_list, some_paths_rise, has_filter, has_all_inserted}
 use Rattle.depots_alike.proofs.Names.{only_some}
-use Rattle.depot_facts.proofs.Tests.{either_false}
 use Rattle.depots_alike.proofs.Paths.{same_turned, only_test, paths_rise}
 use Rattle.depots_alike.proofs.Searches.{owed_same, holder_same, head_same, top_same, pending_same}
 use Rattle.depots_alike.proofs.Shelving.{content_of_same, lacks_content_same}
@@ -40,14 +38,14 @@ owed_are : (client path : List ℕ) (deed : Deed) → has_paths deed ≡ true �
 owed_are client path (Owe o) e = go (same o.client client && same o.path path)
   where
     go : (b : Bool) → list_all is_path (if b then o.from ∷ [] else []) ≡ true
-    go true = right-true (is_path o.path) _ e
+    go true = (and_parts (is_path o.path) _ e).1
     go false = refl
 owed_are client path _ e = refl
 
 not_owed : (client path z : List ℕ) (d : List Deed) → has (paths_of (owed_from client path) d) z ≡ false → owed d client path z ≡ None
 not_owed client path z [] e = refl
 not_owed client path z (Owe o ∷ d) e =
-    let parts = either_false (has (owed_from client path (Owe o)) z) (has (paths_of (owed_from client path) d) z)
+    let parts = or_parts (has (owed_from client path (Owe o)) z) (has (paths_of (owed_from client path) d) z)
     (sym (has_all_inserted z (owed_from client path (Owe o)) (paths_of (owed_from client path) d)) ∙ e) in
     go (same o.client client) (same o.path path) (same o.from z) refl parts.0 (not_owed client path z d parts.1)
   where

@@ -3,6 +3,7 @@ use Rattle.std.proofs.Common.{◌≡◌, ℕ, true, false, List, [], ◌∷◌, 
 use Rattle.std.specs.Prelude.{codes, if◌then◌else◌, filter, is_some, is_none, option_and_then, unwrap_or}
 use Rattle.std.specs.List.{list_all}
 use Rattle.std.specs.Cmp.Derive.{both_true}
+use Rattle.std.proofs.lemmas.Bool.{and_parts}
 use Rattle.depot_rows.specs.db_records.declared.table.TableId.TheVariants as ids
 use Rattle.depot_rows.specs.depot_path.Bytes.{same}
 use Rattle.depot_rows.specs.depot_path.Path.{printed}
@@ -25,7 +26,6 @@ use Rattle.depot_rows.specs.depot_model.Steps.Resolving.{held_of, source_at, how
 use Rattle.depot_rows.specs.depot_model.Steps.Reverting.{not_open}
 use Rattle.depot_rows.specs.depot_model.Steps.Submitting.{is_unpaid}
 use Rattle.depot_rows.specs.depot_model.Steps.Targets.{target_text}
-use Rattle.depot_rows.proofs.Keys.{left-true, right-true}
 use Rattle.step_tables.specs.DeedTables.{stays_in}
 use Rattle.step_tables.proofs.Opening.{move_file_stays, resolve_opened_stays}
 use Rattle.depots_alike.proofs.Alike.{Alike, alike_of, file_tables, all_grown}
@@ -76,8 +76,8 @@ wider (Land l) e = absurd cc
 all_wider : (deeds : List Deed) → list_all (stays_in (ids.Resolve ∷ ids.Working ∷ [])) deeds ≡ true → list_all (stays_in file_tables) deeds ≡ true
 all_wider [] e = refl
 all_wider (deed ∷ deeds) e =
-    both_true (wider deed (left-true (stays_in (ids.Resolve ∷ ids.Working ∷ []) deed) (list_all (stays_in (ids.Resolve ∷ ids.Working ∷ [])) deeds) e))
-    (all_wider deeds (right-true (stays_in (ids.Resolve ∷ ids.Working ∷ []) deed) (list_all (stays_in (ids.Resolve ∷ ids.Working ∷ [])) deeds) e))
+    both_true (wider deed (and_parts (stays_in (ids.Resolve ∷ ids.Working ∷ []) deed) (list_all (stays_in (ids.Resolve ∷ ids.Working ∷ [])) deeds) e).0)
+    (all_wider deeds (and_parts (stays_in (ids.Resolve ∷ ids.Working ∷ []) deed) (list_all (stays_in (ids.Resolve ∷ ids.Working ∷ [])) deeds) e).1)
 
 -- ---- move
 

@@ -1,6 +1,7 @@
 -- The credits of an entry: the integration rows to its revision whose other row is there.
 use Rattle.std.proofs.Common.{◌≡◌, ℕ, Bool, true, false, List, [], ◌∷◌, map, Some, inl, inr, refl, sym, ap, subst, ◌∙◌}
 use Rattle.std.specs.Prelude.{◌&&◌, flat_map, is_some, IsSome}
+use Rattle.std.proofs.lemmas.Bool.{and_parts}
 use Rattle.depot_rows.specs.depot_path.Path.{printed, is_path}
 use Rattle.depot_rows.specs.db_records.Record.{key_of}
 use Rattle.depot_rows.specs.db_records.declared.key.Key.{Key}
@@ -15,7 +16,7 @@ use Rattle.depot_rows.specs.declared.deed.How.{How}
 use Rattle.depot_rows.specs.declared.deed.How.TheVariants.{CopyFrom, BranchFrom, DeleteFrom, Ignored, MovedFrom}
 use Rattle.depot_rows.specs.Deed.{how_of, credit_of}
 use Rattle.depot_rows.proofs.Entries.{In}
-use Rattle.depot_rows.proofs.Keys.{at-self, left-true, right-true}
+use Rattle.depot_rows.proofs.Keys.{at-self}
 use Rattle.depot_facts.proofs.Listed.{flat_in, map_in}
 use Rattle.depots_of_rows.specs.Telling.{Contents}
 use Rattle.depots_of_rows.proofs.Given.{Given, row_keeps}
@@ -130,13 +131,13 @@ module _ (rows : Rows) (contents : Contents) (g : Given rows contents) where
       last = last_of k.0
 
       both_there : (is_some (rows (one_key from first last k.1)) && is_some (rows (other_key from first last k.1))) ≡ true
-      both_there = right-true (is_at k.0 (one_key from first last k.1)) _ taken
+      both_there = (and_parts (is_at k.0 (one_key from first last k.1)) _ taken).1
 
       one_is : rows (one_key from first last k.1) ≡ Some (records.Integed (integed_at (printed path) from first last n n (word_of_how k.1) c))
-      one_is = integed_is (printed path) from first last n n (word_of_how k.1) c (left-true _ _ both_there)
+      one_is = integed_is (printed path) from first last n n (word_of_how k.1) c (and_parts _ _ both_there).0
 
       other_is : rows (other_key from first last k.1) ≡ Some (records.Integed (integed_at from (printed path) n n first last (into_word (how_of k.1)) c))
-      other_is = integed_is from (printed path) n n first last (into_word (how_of k.1)) c (right-true (is_some (rows (one_key from first last k.1))) _ both_there)
+      other_is = integed_is from (printed path) n n first last (into_word (how_of k.1)) c (and_parts (is_some (rows (one_key from first last k.1))) _ both_there).1
 
       spelled : Spells from
       spelled = path_in from (row_keeps rows g.keep (one_key from first last k.1) _ one_is).1

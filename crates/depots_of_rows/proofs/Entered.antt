@@ -3,6 +3,7 @@ use Rattle.std.proofs.Common.{◌≡◌, ◌≤◌, ◌<◌, ◌+◌, ◌⊎◌,
 use Rattle.std.specs.Prelude.{◌==◌, if◌then◌else◌, flat_map, is_some, nat_lt, IsSome}
 use Rattle.std.specs.List.{list_all, list_any}
 use Rattle.std.proofs.lemmas.Bool.Decides.{nat_tests}
+use Rattle.std.proofs.lemmas.Bool.{and_from, and_parts}
 use Rattle.depot_rows.specs.depot_path.Bytes.{same}
 use Rattle.depot_rows.specs.depot_path.Path.{printed, is_path}
 use Rattle.depot_rows.specs.db_records.declared.key.Key.{Key}
@@ -19,11 +20,10 @@ use Rattle.depot_rows.specs.declared.deed.Entry.{Entry}
 use Rattle.depot_rows.specs.Deed.{action_of, credit_of, IsStored, AreEntries}
 use Rattle.depot_rows.specs.Effects.{rev_row, entry_path}
 use Rattle.depot_rows.proofs.Entries.{In}
-use Rattle.depot_rows.proofs.Keys.{same-is, number-is, number-self, left-true, right-true}
+use Rattle.depot_rows.proofs.Keys.{same-is, number-is, number-self}
 use Rattle.depot_facts.proofs.Revisions.{old_number, there_below}
 use Rattle.depots_of_rows.specs.Telling.{Contents}
 use Rattle.depots_of_rows.proofs.Given.{Given}
-use Rattle.depot_facts.proofs.Tests.{both_true}
 use Rattle.depots_of_rows.proofs.Revised.{RevAt, rev_at, from_one, Holds, holds, flat_is}
 use Rattle.depots_of_rows.proofs.Credits.{IsGood, AllCredits, all_credits}
 use Rattle.depots_of_rows.proofs.Words.{Spells, Moves, path_in, moved_in, action_in, word_of_action, either_true}
@@ -42,7 +42,7 @@ model_of e content = record {
 pub all_append : (test : List ℕ → Bool) (xs ys : List (List ℕ)) → list_all test xs ≡ true → list_all test ys ≡ true → list_all test (xs ++ ys) ≡ true
 all_append test [] ys e f = f
 all_append test (x ∷ xs) ys e f =
-    both_true (test x) (list_all test (xs ++ ys)) (left-true (test x) (list_all test xs) e) (all_append test xs ys (right-true (test x) (list_all test xs) e) f)
+    and_from (test x) (list_all test (xs ++ ys)) (and_parts (test x) (list_all test xs) e).0 (all_append test xs ys (and_parts (test x) (list_all test xs) e).1 f)
 
 any_in : (word : List ℕ) (words : List (List ℕ)) → list_any (same word) words ≡ true → In words word
 any_in word [] e = absurd cc
@@ -186,7 +186,7 @@ module _ (rows : Rows) (contents : Contents) (g : Given rows contents) (ks : Lis
       added : (e : EntryAt) → text_of e ≡ t → e.entry.rev ≡ m → list_any (same e.entry.path) (map entry_path (entries_of rest.list)) ≡ false → Entries (key ∷ some)
       added e one number apart = record {
         list = e ∷ rest.list;
-        distinct = both_true (not (list_any (same e.entry.path) (map entry_path (entries_of rest.list)))) (are_distinct (map entry_path (entries_of rest.list)))
+        distinct = and_from (not (list_any (same e.entry.path) (map entry_path (entries_of rest.list)))) (are_distinct (map entry_path (entries_of rest.list)))
             (ap not apart) rest.distinct;
         all = all;
       }
@@ -313,18 +313,18 @@ module _ (rows : Rows) (contents : Contents) (g : Given rows contents) (ks : Lis
 
   pub all_paths : (es : List EntryAt) → list_all is_path (map entry_path (entries_of es)) ≡ true
   all_paths [] = refl
-  all_paths (e ∷ es) = both_true (is_path e.entry.path) (list_all is_path (map entry_path (entries_of es))) e.path (all_paths es)
+  all_paths (e ∷ es) = and_from (is_path e.entry.path) (list_all is_path (map entry_path (entries_of es))) e.path (all_paths es)
 
   credit_paths : (path : List ℕ) (n : ℕ) (xs : List Credit) → ((k : Credit) → In xs k → IsGood rows contents g c path n k)
       → list_all is_path (map (λ (k : model.Credit). k.from) (map credit_of xs)) ≡ true
   credit_paths path n [] good = refl
   credit_paths path n (x ∷ xs) good =
-      both_true (is_path x.from) (list_all is_path (map (λ (k : model.Credit). k.from) (map credit_of xs))) (good x (inl refl)).from_path
+      and_from (is_path x.from) (list_all is_path (map (λ (k : model.Credit). k.from) (map credit_of xs))) (good x (inl refl)).from_path
       (credit_paths path n xs (λ k h. good k (inr h)))
 
   pub entry_has_paths : (e : EntryAt) → list_all is_path (entry_paths (model_of e.entry e.content)) ≡ true
   entry_has_paths e =
-      both_true (is_path e.entry.path) _ e.path
+      and_from (is_path e.entry.path) _ e.path
       (all_append is_path (path_or_none e.entry.moved) (map (λ (k : model.Credit). k.from) (map credit_of e.entry.credits)) e.moved
       (credit_paths e.entry.path e.entry.rev e.entry.credits e.good))
 
@@ -334,4 +334,4 @@ module _ (rows : Rows) (contents : Contents) (g : Given rows contents) (ks : Lis
 
   pub entries_are_whole : (es : List EntryAt) → list_all has_its_content (models_of es) ≡ true
   entries_are_whole [] = refl
-  entries_are_whole (e ∷ es) = both_true (has_its_content (model_of e.entry e.content)) (list_all has_its_content (models_of es)) e.live_is (entries_are_whole es)
+  entries_are_whole (e ∷ es) = and_from (has_its_content (model_of e.entry e.content)) (list_all has_its_content (models_of es)) e.live_is (entries_are_whole es)

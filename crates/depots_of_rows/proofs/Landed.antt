@@ -2,6 +2,7 @@
 use Rattle.std.proofs.Common.{◌≡◌, ◌≢◌, ◌≤◌, ◌<◌, ◌+◌, ◌⊎◌, ℕ, zero, suc, Bool, true, false, List, [], ◌∷◌, map, Option, Some, None, inl, inr, refl, sym, ap, subst, ◌∙◌, arith}
 use Rattle.std.specs.Prelude.{◌==◌, ◌&&◌, codes, if◌then◌else◌, option_map, find, slice_get, nat_lt, is_some, IsSome, Contains}
 use Rattle.std.specs.List.{list_all}
+use Rattle.std.proofs.lemmas.Bool.{and_from, and_parts}
 use Rattle.depot_rows.specs.depot_path.Bytes.{same}
 use Rattle.depot_rows.specs.depot_path.Path.{printed}
 use Rattle.depot_rows.specs.db_records.Record.{key_of}
@@ -27,12 +28,11 @@ use Rattle.depot_rows.proofs.ChangeCounter.{change_key}
 use Rattle.depot_rows.proofs.Entries.{In, of_path, at_most_once, paths-same}
 use Rattle.depot_rows.proofs.Flat.{flat_row}
 use Rattle.depot_rows.proofs.Following.{stays_apart}
-use Rattle.depot_rows.proofs.Keys.{same-is, same-self, number-is, number-self, at-is, at-self, left-true, right-true}
+use Rattle.depot_rows.proofs.Keys.{same-is, same-self, number-is, number-self, at-is, at-self}
 use Rattle.depot_rows.proofs.Submitted.{land_met}
 use Rattle.depot_facts.proofs.Listed.{contains_in, in_contains, in_flat, flat_in, in_filter, in_map, found_in, finds, get_in, get_either, IsBehind, map_in}
 use Rattle.depots_of_rows.specs.Telling.{Contents, HasTheseContents}
 use Rattle.depots_of_rows.proofs.Given.{Given, only, row_keeps}
-use Rattle.depot_facts.proofs.Tests.{both_true}
 use Rattle.depots_of_rows.proofs.Side.{Side}
 use Rattle.depots_of_rows.proofs.Opened.{put_other}
 use Rattle.depots_of_rows.proofs.Revised.{made_there}
@@ -129,8 +129,8 @@ module _ (rows : Rows) (contents : Contents) (g : Given rows contents) (ks : Lis
           let among = found_in (is_revision text n) landing.entries y h in
           let at = in_map (λ (z : At). z.entry) es.list y among.0 in
           let passes : (same (printed y.path) text && (y.rev == n)) ≡ true = among.1 in
-          let spelled : printed y.path ≡ text = same-is (printed y.path) text (left-true _ _ passes) in
-          let number : y.rev ≡ n = number-is y.rev n (right-true (same (printed y.path) text) _ passes) in
+          let spelled : printed y.path ≡ text = same-is (printed y.path) text (and_parts _ _ passes).0 in
+          let number : y.rev ≡ n = number-is y.rev n (and_parts (same (printed y.path) text) _ passes).1 in
           let row : rows (keys.Rev (printed y.path) y.rev) ≡ Some (rev_row c y) =
           subst (λ (z : Entry). rows (keys.Rev (printed z.path) z.rev) ≡ Some (rev_row c z)) at.1.1 (at.0.row_is) in
           let here : rows q ≡ Some (rev_row c y) = (λ i. rows (keys.Rev (sym spelled i) (sym number i))) ∙ row in
@@ -147,7 +147,7 @@ module _ (rows : Rows) (contents : Contents) (g : Given rows contents) (ks : Lis
               let has : HasRev rows text n = ap is_some k in
               let at = es.all text n (listed q has) has made in
               let passes : (same (printed (at.at.entry.path)) text && (at.at.entry.rev == n)) ≡ true =
-              both_true (same (printed (at.at.entry.path)) text) (at.at.entry.rev == n)
+              and_from (same (printed (at.at.entry.path)) text) (at.at.entry.rev == n)
               (ap (λ (t : List ℕ). same t text) at.text_is ∙ same-self text)
               (ap (λ (m : ℕ). m == n) at.rev_is ∙ number-self n) in
               let y = finds (is_revision text n) landing.entries at.at.entry (map_in (λ (z : At). z.entry) es.list at.at at.among) passes in
@@ -408,8 +408,8 @@ module _ (rows : Rows) (contents : Contents) (g : Given rows contents) (ks : Lis
     stay = s.built.side.stay;
     lines = s.built.side.lines;
     forms = s.built.side.forms;
-    paths = both_true (has_paths (model.Land landing_is)) (list_all has_paths d) (entries_have_paths rows contents g ks listed c es.list) s.built.side.paths;
-    whole = both_true (have_their_contents landing_is) (list_all have_their_contents (landings d)) (entries_are_whole rows contents g ks listed c es.list) s.built.side.whole;
+    paths = and_from (has_paths (model.Land landing_is)) (list_all has_paths d) (entries_have_paths rows contents g ks listed c es.list) s.built.side.paths;
+    whole = and_from (have_their_contents landing_is) (list_all have_their_contents (landings d)) (entries_are_whole rows contents g ks listed c es.list) s.built.side.whole;
     these = these_after;
   }
 

@@ -2,6 +2,7 @@
 use Rattle.std.proofs.Common.{◌≡◌, ◌⊎◌, ◌≤◌, ℕ, zero, suc, Bool, true, false, List, [], ◌∷◌, map, Option, Some, None, inl, inr, refl, sym, ap, subst, ◌∙◌, arith}
 use Rattle.std.specs.Prelude.{◌||◌, codes, option_map}
 use Rattle.std.specs.List.{list_all}
+use Rattle.std.proofs.lemmas.Bool.{and_from}
 use Rattle.depot_rows.specs.depot_path.Bytes.{same}
 use Rattle.depot_rows.specs.depot_path.Path.{printed, is_path}
 use Rattle.depot_rows.specs.db_records.Record.{key_of}
@@ -25,7 +26,6 @@ use Rattle.depot_rows.proofs.Entries.{In}
 use Rattle.depot_rows.proofs.Keys.{at-self, same-is}
 use Rattle.depots_of_rows.specs.Telling.{Contents}
 use Rattle.depots_of_rows.proofs.Given.{Given, or_at, row_keeps, none_more, known_more}
-use Rattle.depot_facts.proofs.Tests.{both_true}
 use Rattle.depots_of_rows.proofs.Side.{Built}
 use Rattle.depots_of_rows.proofs.Words.{Spells, Moves, Takes, path_in, moved_in, source_in, action_in, how_in, form_in, either_true, word_of_how, word_of_action}
 use Rattle.depots_of_rows.proofs.Simple.{Further, count_one, group_one, spec_one, have_one, label_one}
@@ -156,7 +156,7 @@ module _ (rows : Rows) (contents : Contents) (g : Given rows contents) (test : K
       source_paths (Some s) e = e
 
       has : has_paths (model.Open (opening_of opening)) ≡ true
-      has = both_true (is_path path.path) _ path.is (all_append is_path (path_or_none moved.moved) _ moved.paths (source_paths source.source source.paths))
+      has = and_from (is_path path.path) _ path.is (all_append is_path (path_or_none moved.moved) _ moved.paths (source_paths source.source source.paths))
 
       go : (lock : ℕ) → x.lock ≡ lock → lock ≤ 1 → Further rows contents test (keys.Working (printed path.path) x.client)
       go zero e low = open_one rows contents g test d b opening path.is has (row_is 0 e)

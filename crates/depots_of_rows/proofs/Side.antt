@@ -2,6 +2,7 @@
 use Rattle.std.proofs.Common.{◌≡◌, ℕ, Bool, true, List, [], ◌∷◌, Option, refl}
 use Rattle.std.specs.Prelude.{IsTrue, IfSome, is_ok}
 use Rattle.std.specs.List.{list_all}
+use Rattle.std.proofs.lemmas.Bool.{and_from}
 use Rattle.depot_rows.specs.depot_path.Path.{is_path}
 use Rattle.depot_rows.specs.protect_table.Line.{table_of as protects_of}
 use Rattle.depot_rows.specs.db_records.declared.key.Key.{Key}
@@ -10,7 +11,6 @@ use Rattle.depot_rows.specs.depot_model.Latest.{guard_lines, spec}
 use Rattle.depot_rows.specs.depot_model.Numbers.{landings}
 use Rattle.depot_rows.specs.depot_model.Records.{record_of}
 use Rattle.depot_rows.specs.depot_model.Rules.{Rows, KeepRules, IsSound, LandAlike, NotBoth, stay_landed, IsSpelled, has_paths, have_their_contents}
-use Rattle.depot_facts.proofs.Tests.{both_true}
 use Rattle.depots_of_rows.specs.Telling.{Contents, HasTheseContents}
 use Rattle.depots_of_rows.proofs.Given.{only}
 
@@ -42,10 +42,10 @@ sound_by contents d side keep = record {
 }
 
 pub one_path : (path : List ℕ) → is_path path ≡ true → list_all is_path (path ∷ []) ≡ true
-one_path path is = both_true (is_path path) true is refl
+one_path path is = and_from (is_path path) true is refl
 
 pub two_paths : (path other : List ℕ) → is_path path ≡ true → is_path other ≡ true → list_all is_path (path ∷ other ∷ []) ≡ true
-two_paths path other is there = both_true (is_path path) (list_all is_path (other ∷ [])) is (one_path other there)
+two_paths path other is there = and_from (is_path path) (list_all is_path (other ∷ [])) is (one_path other there)
 
 -- ---- deeds that speak of nothing of it but of paths
 
@@ -65,7 +65,7 @@ module _ (contents : Contents) (d : List Deed) (s : Side contents d) where
     forms = s.forms;
     whole = s.whole;
     these = s.these;
-    paths = both_true (has_paths (Got held rev)) (list_all has_paths d) has s.paths;
+    paths = and_from (has_paths (Got held rev)) (list_all has_paths d) has s.paths;
   }
 
   pub side_tag : (label path : List ℕ) (rev : ℕ) → has_paths (Tag label path rev) ≡ true → Side contents (Tag label path rev ∷ d)
@@ -77,7 +77,7 @@ module _ (contents : Contents) (d : List Deed) (s : Side contents d) where
     forms = s.forms;
     whole = s.whole;
     these = s.these;
-    paths = both_true (has_paths (Tag label path rev)) (list_all has_paths d) has s.paths;
+    paths = and_from (has_paths (Tag label path rev)) (list_all has_paths d) has s.paths;
   }
 
   pub side_owe : (o : Owing) → has_paths (Owe o) ≡ true → Side contents (Owe o ∷ d)
@@ -89,7 +89,7 @@ module _ (contents : Contents) (d : List Deed) (s : Side contents d) where
     forms = s.forms;
     whole = s.whole;
     these = s.these;
-    paths = both_true (has_paths (Owe o)) (list_all has_paths d) has s.paths;
+    paths = and_from (has_paths (Owe o)) (list_all has_paths d) has s.paths;
   }
 
   pub side_paid : (held : Held) (from : List ℕ) (how : How) → has_paths (Paid held from how) ≡ true → Side contents (Paid held from how ∷ d)
@@ -101,7 +101,7 @@ module _ (contents : Contents) (d : List Deed) (s : Side contents d) where
     forms = s.forms;
     whole = s.whole;
     these = s.these;
-    paths = both_true (has_paths (Paid held from how)) (list_all has_paths d) has s.paths;
+    paths = and_from (has_paths (Paid held from how)) (list_all has_paths d) has s.paths;
   }
 
   pub side_open : (o : Opening) → has_paths (Open o) ≡ true → Side contents (Open o ∷ d)
@@ -113,7 +113,7 @@ module _ (contents : Contents) (d : List Deed) (s : Side contents d) where
     forms = s.forms;
     whole = s.whole;
     these = s.these;
-    paths = both_true (has_paths (Open o)) (list_all has_paths d) has s.paths;
+    paths = and_from (has_paths (Open o)) (list_all has_paths d) has s.paths;
   }
 
   pub side_hold : (held : Held) → has_paths (Hold held) ≡ true → Side contents (Hold held ∷ d)
@@ -125,5 +125,5 @@ module _ (contents : Contents) (d : List Deed) (s : Side contents d) where
     forms = s.forms;
     whole = s.whole;
     these = s.these;
-    paths = both_true (has_paths (Hold held)) (list_all has_paths d) has s.paths;
+    paths = and_from (has_paths (Hold held)) (list_all has_paths d) has s.paths;
   }

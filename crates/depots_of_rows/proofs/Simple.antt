@@ -3,6 +3,7 @@ use Rattle.std.proofs.Common.{◌≡◌, ◌≢◌, ◌≤◌, ℕ, Bool, true, 
 use Rattle.std.specs.Prelude.{◌&&◌, ◌||◌, codes, if◌then◌else◌, IfSome}
 use Rattle.std.specs.Option.{option_or}
 use Rattle.std.specs.List.{list_any}
+use Rattle.std.proofs.lemmas.Bool.{and_parts}
 use Rattle.depot_rows.specs.depot_path.Bytes.{same}
 use Rattle.depot_rows.specs.depot_path.Path.{printed, is_path}
 use Rattle.depot_rows.specs.spec_form.Form.{FormValue}
@@ -15,7 +16,7 @@ use Rattle.depot_rows.specs.depot_model.Latest.{kind_word, same_kind, spec, spec
 use Rattle.depot_rows.specs.depot_model.Records.{record_of, numbered_record, kind_of}
 use Rattle.depot_rows.specs.depot_model.Rules.{Rows, IsSpelled}
 use Rattle.depot_rows.specs.Effects.{put_at, counter_row, group_row, form_row, have_row, label_row, grouped}
-use Rattle.depot_rows.proofs.Keys.{same-is, same-self, left-true, put-is}
+use Rattle.depot_rows.proofs.Keys.{same-is, same-self, put-is}
 use Rattle.depot_rows.proofs.Counters.{count-met}
 use Rattle.depot_rows.proofs.Lists.{got_met, tag_met, spec_met, group_met}
 use Rattle.depots_of_rows.specs.Telling.{Contents}
@@ -96,7 +97,7 @@ module _ (rows : Rows) (contents : Contents) (test : Key → Bool) (d : List Dee
       forms k x = go (same_kind kind k && same name x) refl
         where
           go : (y : Bool) → (same_kind kind k && same name x) ≡ y → IfSome (option_or (when y form) (latest (spec_said k x) d)) (IsSpelled k)
-          go true e = subst (λ (l : SpecKind). IsSpelled l form) (kind_is kind k (same-is (kind_word kind) (kind_word k) (left-true (same_kind kind k) (same name x) e))) spelled
+          go true e = subst (λ (l : SpecKind). IsSpelled l form) (kind_is kind k (same-is (kind_word kind) (kind_word k) (and_parts (same_kind kind k) (same name x) e).0)) spelled
           go false e = b.side.forms k x
 
   pub spec_one : (kind : SpecKind) (name : List ℕ) (form : FormValue) → IsSpelled kind form

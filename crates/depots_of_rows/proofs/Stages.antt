@@ -3,6 +3,7 @@ use Rattle.std.proofs.Common.{◌≡◌, ◌≢◌, ◌≤◌, ◌<◌, ◌⊎�
 use Rattle.std.specs.Prelude.{◌==◌, codes, if◌then◌else◌, option_map, option_and_then, nat_lt, is_none, is_some, IsSome, IsSomeAnd, Contains}
 use Rattle.std.specs.Option.{option_or, option_flatten}
 use Rattle.std.proofs.Math.Nat.{max-eq_left}
+use Rattle.std.proofs.lemmas.Bool.{and_from}
 use Rattle.depot_rows.specs.depot_path.Bytes.{same}
 use Rattle.depot_rows.specs.depot_path.Path.{printed}
 use Rattle.depot_rows.specs.db_records.declared.key.Key.{Key}
@@ -28,7 +29,6 @@ use Rattle.depot_rows.proofs.Spelled.{at_path-nothing}
 use Rattle.depot_facts.proofs.Listed.{contains_in}
 use Rattle.depots_of_rows.specs.Telling.{Contents}
 use Rattle.depots_of_rows.proofs.Given.{Given, only}
-use Rattle.depot_facts.proofs.Tests.{both_true}
 use Rattle.depots_of_rows.proofs.Side.{Side, Built}
 use Rattle.depots_of_rows.proofs.Opened.{put_other}
 use Rattle.depots_of_rows.proofs.Revised.{submitted_by}
@@ -253,7 +253,7 @@ module _ (rows : Rows) (contents : Contents) (g : Given rows contents) where
           record {
             agree = side.agree;
             apart = stays_apart d (Pend pending) (model.Pend (pending_of pending)) side.apart refl free;
-            stay = both_true (is_none (landing d c)) (stay_landed d) (ap is_none (not_landed d c side.apart free)) side.stay;
+            stay = and_from (is_none (landing d c)) (stay_landed d) (ap is_none (not_landed d c side.apart free)) side.stay;
             lines = side.lines;
             forms = side.forms;
             paths = side.paths;

@@ -2,6 +2,7 @@
 use Rattle.std.proofs.Common.{◌≡◌, ◌⊎◌, ℕ, zero, suc, Bool, true, false, List, [], ◌∷◌, Option, Some, None, Result, Ok, Err, inl, inr, refl, sym, ap, subst, ◌∙◌}
 use Rattle.std.specs.Prelude.{◌&&◌, not, codes, bytes_eq, if◌then◌else◌, length, option_and_then, unwrap_or, is_some, is_none, filter, flat_map}
 use Rattle.std.specs.List.{list_all}
+use Rattle.std.proofs.lemmas.Bool.{and_parts}
 use Rattle.depot_rows.specs.depot_path.Bytes.{same}
 use Rattle.depot_rows.specs.depot_path.Path.{path_of, is_path}
 use Rattle.depot_rows.specs.depot_path.declared.fault.PathFault.{PathFault}
@@ -18,15 +19,15 @@ use Rattle.depot_rows.specs.depot_model.Rows.{action_word}
 use Rattle.depot_rows.specs.depot_model.Rules.{Rows, has_paths, entry_paths, has_its_content, have_their_contents}
 use Rattle.depot_rows.specs.Standing.{Stand}
 use Rattle.depot_rows.proofs.Entries.{In}
-use Rattle.depot_rows.proofs.Keys.{same-is, left-true, right-true}
+use Rattle.depot_rows.proofs.Keys.{same-is}
 use Rattle.depot_facts.proofs.Listed.{flat_in, in_append, in_filter, in_map, get_in}
 use Rattle.depot_facts.proofs.Revisions.{Shown, shown}
 use Rattle.depots_of_rows.specs.Telling.{all_unplaced, Contents, TellOf, KeepAllRules}
 
 all_true : {A : Type 0} (test : A → Bool) (xs : List A) (x : A) → list_all test xs ≡ true → In xs x → test x ≡ true
 all_true test [] x all h = absurd h
-all_true test (y ∷ ys) x all (inl e) = ap test (sym e) ∙ left-true (test y) (list_all test ys) all
-all_true test (y ∷ ys) x all (inr h) = all_true test ys x (right-true (test y) (list_all test ys) all) h
+all_true test (y ∷ ys) x all (inl e) = ap test (sym e) ∙ (and_parts (test y) (list_all test ys) all).0
+all_true test (y ∷ ys) x all (inr h) = all_true test ys x (and_parts (test y) (list_all test ys) all).1 h
 
 -- ---- the entry of a revision
 
@@ -41,13 +42,13 @@ by_entry : (P : List ℕ → Entry → Type 0) (test : Landing → Bool) → ((l
     → list_all test (landings d) ≡ true → In (revisions d path) r → P path r.entry
 by_entry P test each [] path r all h = absurd h
 by_entry P test each (Land l ∷ d) path r all h =
-    go (in_append (revisions d path) (entries_at path l) r h) (by_entry P test each d path r (right-true (test l) (list_all test (landings d)) all))
+    go (in_append (revisions d path) (entries_at path l) r h) (by_entry P test each d path r (and_parts (test l) (list_all test (landings d)) all).1)
   where
     go : In (revisions d path) r ⊎ In (entries_at path l) r → (In (revisions d path) r → P path r.entry) → P path r.entry
     go (inl k) later = later k
     go (inr k) later =
         let e = entry_in path l r k in
-        subst (P path) (sym e.1.2) (subst (λ (p : List ℕ). P p e.0) e.1.1 (each l e.0 (left-true (test l) (list_all test (landings d)) all) e.1.0))
+        subst (P path) (sym e.1.2) (subst (λ (p : List ℕ). P p e.0) e.1.1 (each l e.0 (and_parts (test l) (list_all test (landings d)) all).0 e.1.0))
 by_entry P test each (deed ∷ d) path r all h = by_entry P test each d path r all h
 
 own : (d : List Deed) (path : List ℕ) (n : ℕ) (r : Revision) → list_all have_their_contents (landings d) ≡ true → revision d path n ≡ Some r → has_its_content r.entry ≡ true
@@ -59,10 +60,10 @@ own d path (suc n) r all e =
 landed_paths : (d : List Deed) → list_all has_paths d ≡ true → list_all (λ (l : Landing). has_paths (Land l)) (landings d) ≡ true
 landed_paths [] all = refl
 landed_paths (Land l ∷ d) all =
-    let rest = landed_paths d (right-true (has_paths (Land l)) (list_all has_paths d) all) in
-    let one = left-true (has_paths (Land l)) (list_all has_paths d) all in
+    let rest = landed_paths d (and_parts (has_paths (Land l)) (list_all has_paths d) all).1 in
+    let one = (and_parts (has_paths (Land l)) (list_all has_paths d) all).0 in
     λ i. one i && rest i
-landed_paths (deed ∷ d) all = landed_paths d (right-true (has_paths deed) (list_all has_paths d) all)
+landed_paths (deed ∷ d) all = landed_paths d (and_parts (has_paths deed) (list_all has_paths d) all).1
 
 pub revision_path : (d : List Deed) (path : List ℕ) (n : ℕ) (r : Revision) → list_all has_paths d ≡ true → revision d path n ≡ Some r → is_path path ≡ true
 revision_path d path zero r all e = absurd cc

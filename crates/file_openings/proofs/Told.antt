@@ -7,7 +7,7 @@ use Rattle.std.specs.Ordering.{is_eq, nat_cmp, ordering_then}
 use Rattle.std.specs.Cmp.Lexicographic.{slice_cmp}
 use Rattle.std.specs.declared.cmp.Ordering.{Ordering}
 use Rattle.std.specs.declared.cmp.Ordering.TheVariants.{Less, Equal, Greater}
-use Rattle.std.proofs.lemmas.Bool.{true≢false, false≢true}
+use Rattle.std.proofs.lemmas.Bool.{true≢false, false≢true, or_right}
 use Rattle.std.proofs.lemmas.Map.Text.{is_eq-slice_cmp}
 use Rattle.depot_rows.specs.depot_path.Bytes.{same}
 use Rattle.depot_rows.specs.depot_path.Path.{path_of, printed}
@@ -38,10 +38,6 @@ use Rattle.row_reads.proofs.FoundRows.{at_own_path}
 use Rattle.row_reads.proofs.GroupsListed.{kept_at, kept_of, kept_rise}
 use Rattle.file_openings.specs.Openings.{openings}
 use Rattle.file_openings.proofs.NamesRise.{Below, Rise, in_inserted, keys_rise}
-
-or_right : (a b : Bool) → b ≡ true → (a || b) ≡ true
-or_right true b e = refl
-or_right false b e = e
 
 -- ---- who has a file opened is named
 

@@ -5,6 +5,7 @@ use Rattle.std.specs.List.{list_any}
 use Rattle.std.proofs.lemmas.List.{take_all, take_more}
 use Rattle.std.proofs.lemmas.List.Folds.{list_any-append}
 use Rattle.std.proofs.lemmas.Slice.Eq.{bytes_eq-Decides}
+use Rattle.std.proofs.lemmas.Bool.{and_parts, or_right}
 use Rattle.depot_rows.specs.depot_path.Bytes.{same}
 use Rattle.depot_rows.specs.depot_model.declared.command.FileArgument.{FileArgument}
 use Rattle.depot_rows.specs.depot_model.Arguments.{each_or, not_in, over}
@@ -111,14 +112,6 @@ and_false : (a : Bool) → (a && false) ≡ false
 and_false true = refl
 and_false false = refl
 
-left_true : (a b : Bool) → (a && b) ≡ true → a ≡ true
-left_true true b e = refl
-left_true false b e = e
-
-or_right : (a b : Bool) → b ≡ true → (a || b) ≡ true
-or_right true b e = refl
-or_right false b e = e
-
 in_filter : (p : List ℕ) (f : List ℕ → Bool) (xs : List (List ℕ)) → list_any (same p) (filter f xs) ≡ (list_any (same p) xs && f p)
 in_filter p f [] = refl
 in_filter p f (x ∷ xs) = go (f x) refl (same p x) refl (in_filter p f xs)
@@ -155,7 +148,7 @@ module _ (names : FileArgument → List ℕ → Bool) (files : List (List ℕ)) 
   pub left_is : (earlier : List FileArgument) (a : FileArgument) → not_in (flat_map found earlier) (found a) ≡ filter (λ p. not (taken earlier p)) (found a)
   left_is earlier a =
       filter_alike (λ p. not (list_any (same p) (flat_map found earlier))) (λ p. not (taken earlier p)) (found a) (λ p is.
-      ap not (taken_is p (left_true (list_any (same p) files) (names a p) (sym (in_filter p (names a) files) ∙ is)) earlier))
+      ap not (taken_is p (and_parts (list_any (same p) files) (names a p) (sym (in_filter p (names a) files) ∙ is)).0 earlier))
 
   -- ---- arguments one after another
 

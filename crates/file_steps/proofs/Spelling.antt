@@ -3,6 +3,7 @@ use Rattle.std.proofs.Common.{◌≡◌, ℕ, Bool, true, false, List, [], ◌�
 use Rattle.std.specs.Prelude.{◌&&◌, ◌||◌, filter, not, if◌then◌else◌}
 use Rattle.std.specs.List.{list_all}
 use Rattle.std.proofs.lemmas.List.Folds.{list_any-append}
+use Rattle.std.proofs.lemmas.Bool.{and_parts}
 use Rattle.depot_rows.specs.depot_path.Bytes.{same}
 use Rattle.depot_rows.specs.depot_model.declared.command.FileArgument.{FileArgument}
 use Rattle.depot_rows.specs.depot_model.Arguments.{each_or, is_in, not_in, over}
@@ -26,19 +27,11 @@ alike_on taken now earlier found new old path =
 pub alike_still : (taken found : List (List ℕ)) → found ≡ [] → AreAlike taken (taken ++ found)
 alike_still taken found none path = ap (λ (x : List (List ℕ)). is_in x path) (sym (append-nil taken) ∙ (λ i. taken ++ sym none i))
 
-first_all : (a b : Bool) → (a && b) ≡ true → a ≡ true
-first_all true b e = refl
-first_all false b e = e
-
-later_all : (a b : Bool) → (a && b) ≡ true → b ≡ true
-later_all true b e = e
-later_all false b e = absurd cc
-
 pub first_spells : (argument : FileArgument) (rest arguments : List FileArgument) → argument ∷ rest ≡ arguments → list_all spells_path arguments ≡ true → spells_path argument ≡ true
-first_spells argument rest arguments are e = first_all (spells_path argument) (list_all spells_path rest) (ap (list_all spells_path) are ∙ e)
+first_spells argument rest arguments are e = (and_parts (spells_path argument) (list_all spells_path rest) (ap (list_all spells_path) are ∙ e)).0
 
 pub later_spell : (argument : FileArgument) (rest arguments : List FileArgument) → argument ∷ rest ≡ arguments → list_all spells_path arguments ≡ true → list_all spells_path rest ≡ true
-later_spell argument rest arguments are e = later_all (spells_path argument) (list_all spells_path rest) (ap (list_all spells_path) are ∙ e)
+later_spell argument rest arguments are e = (and_parts (spells_path argument) (list_all spells_path rest) (ap (list_all spells_path) are ∙ e)).1
 
 module _ (found : FileArgument → List (List ℕ)) (missing : FileArgument → ModelStep) (act : FileArgument → List ℕ → ModelStep) where
   -- what is done for an argument after files

@@ -4,38 +4,30 @@ use Rattle.std.specs.Prelude.{◌==◌, ◌||◌, not, nat_le, codes, decimal, i
 use Rattle.std.specs.Fmt.{digits, digits_onto, digit_glyph}
 use Rattle.std.specs.List.{list_any}
 use Rattle.std.proofs.lemmas.Bool.Decides.{nat_tests}
-use Rattle.std.proofs.lemmas.Bool.{not-true}
+use Rattle.std.proofs.lemmas.Bool.{not-true, and_parts, or_parts}
 use Rattle.depot_rows.specs.depot_path.Bytes.{is_control, is_digit}
 use Rattle.depot_rows.specs.depot_path.Name.{is_name, is_barred}
 use Rattle.depot_rows.specs.depot_path.Path.{is_path, printed, escaped}
-use Rattle.depot_rows.proofs.Keys.{left-true, right-true, number-is, number-self}
+use Rattle.depot_rows.proofs.Keys.{number-is, number-self}
 use Rattle.depot_facts.proofs.Decimals.{decimal_digits, digits_without}
 use Rattle.wire_text.specs.Parts.{IsFree}
 use Rattle.wire_text.proofs.Separators.{free_append}
 
-pub or_left : (a b : Bool) → (a || b) ≡ false → a ≡ false
-or_left true b e = absurd cc
-or_left false b e = refl
-
-pub or_right : (a b : Bool) → (a || b) ≡ false → b ≡ false
-or_right true b e = absurd cc
-or_right false b e = e
-
 -- a byte that a test finds isn't in a text in which it finds none
 pub free_of : (test : ℕ → Bool) (c : ℕ) → test c ≡ true → (text : List ℕ) → list_any test text ≡ false → IsFree c text
 free_of test c is [] e = tt
-free_of test c is (b ∷ text) e = (apart (b == c) refl, free_of test c is text (or_right (test b) (list_any test text) e))
+free_of test c is (b ∷ text) e = (apart (b == c) refl, free_of test c is text (or_parts (test b) (list_any test text) e).1)
   where
     apart : (r : Bool) → (b == c) ≡ r → (b == c) ≡ false
     apart true same =
         absurd (let found : test b ≡ true = ap test (number-is b c same) ∙ is in
-        let none : test b ≡ false = or_left (test b) (list_any test text) e in cc)
+        let none : test b ≡ false = (or_parts (test b) (list_any test text) e).0 in cc)
     apart false differs = differs
 
 -- ---- names
 
 pub name_free : (c : ℕ) (name : List ℕ) → is_barred c ≡ true → is_name name ≡ true → IsFree c name
-name_free c name barred is = free_of is_barred c barred name (not-true (list_any is_barred name) (right-true _ _ (left-true _ _ (left-true _ _ is))))
+name_free c name barred is = free_of is_barred c barred name (not-true (list_any is_barred name) (and_parts _ _ (and_parts _ _ (and_parts _ _ is).0).0).1)
 
 -- ---- numbers
 
@@ -58,11 +50,11 @@ decimal_short n = onto_length 64 n []
 -- ---- paths
 
 pub path_plain : (path : List ℕ) → is_path path ≡ true → list_any is_control path ≡ false
-path_plain path is = not-true (list_any is_control path) (right-true _ _ (right-true _ _ (left-true _ _ (left-true _ _ is))))
+path_plain path is = not-true (list_any is_control path) (and_parts _ _ (and_parts _ _ (and_parts _ _ (and_parts _ _ is).0).0).1).1
 
 pub path_short : (path : List ℕ) → is_path path ≡ true → length (printed path) ≤ 1024
 path_short path is =
-    let e : nat_le (length (printed path)) 1024 ≡ true = left-true _ _ (left-true _ _ (left-true _ _ (left-true _ _ (left-true _ _ (left-true _ _ is))))) in
+    let e : nat_le (length (printed path)) 1024 ≡ true = (and_parts _ _ (and_parts _ _ (and_parts _ _ (and_parts _ _ (and_parts _ _ (and_parts _ _ is).0).0).0).0).0).0 in
     grind (arith, nat_tests)
 
 escaped_free : (b : ℕ) → (b == 0x0A) ≡ false → IsFree 0x0A (escaped b)

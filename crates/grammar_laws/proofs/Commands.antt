@@ -1,9 +1,9 @@
 -- The words of every well-formed command that its texts spell read to it.
 use Rattle.std.proofs.Common.{◌≡◌, Bool, Some, None, Ok}
+use Rattle.std.proofs.lemmas.Bool.{and_parts}
 use Rattle.depot_rows.specs.depot_model.declared.command.Command.{Command}
 use Rattle.depot_rows.specs.depot_model.declared.command.Command.TheVariants as commands
 use Rattle.depot_rows.specs.depot_model.declared.line.Line.{Line}
-use Rattle.depot_rows.proofs.Keys.{left-true, right-true}
 use Rattle.command_words.proofs.FormedLines.{is_formed}
 use Rattle.command_words.specs.Reading.{command_of}
 use Rattle.command_words.specs.WellFormed.{IsWellFormed}
@@ -27,7 +27,7 @@ command_reads commands.GroupSave w s = words.group_save_reads
 command_reads commands.ProtectShow w s = words.protect_show_reads
 command_reads commands.ProtectSave w s = words.protect_save_reads
 command_reads (commands.Where paths) w s = arguments.where_reads paths s
-command_reads (commands.Add change type paths) w s = arguments.add_reads change type paths w.numbers (left-true _ _ w.form) s
+command_reads (commands.Add change type paths) w s = arguments.add_reads change type paths w.numbers (and_parts _ _ w.form).0 s
 command_reads (commands.Edit change type files) w s = arguments.edit_reads change type files w.numbers w.form s
 command_reads (commands.Delete change files) w s = arguments.delete_reads change files w.numbers s
 command_reads (commands.Move change from to) w s = arguments.move_reads change from to w.numbers s w.form
@@ -39,7 +39,7 @@ command_reads (commands.Opened all files) w s = arguments.opened_reads all files
 command_reads commands.ChangeSave w s = words.change_save_reads
 command_reads (commands.ChangeShow change) w s = words.change_show_reads change w.numbers
 command_reads (commands.ChangeDelete change) w s = words.change_delete_reads change w.numbers
-command_reads (commands.Changes most status user client files) w s = arguments.changes_reads most status user client files w.numbers (left-true _ _ w.names) (right-true _ _ w.names) s
+command_reads (commands.Changes most status user client files) w s = arguments.changes_reads most status user client files w.numbers (and_parts _ _ w.names).0 (and_parts _ _ w.names).1 s
 command_reads (commands.SubmitChange change) w s = words.submit_change_reads change w.numbers
 command_reads (commands.SubmitDefault text) w s = words.submit_default_reads text
 command_reads (commands.Sync again shows files) w s = arguments.sync_reads again shows files s
@@ -58,7 +58,7 @@ command_reads (commands.Dirs patterns) w s = arguments.dirs_reads patterns s
 command_reads (commands.FileStat files) w s = arguments.file_stat_reads files s
 command_reads (commands.Shelve change replaces files) w s = arguments.shelve_reads change replaces files w.numbers s
 command_reads (commands.ShelveDelete change files) w s = arguments.shelve_delete_reads change files w.numbers s
-command_reads (commands.Unshelve shelved change files) w s = arguments.unshelve_reads shelved change files (left-true _ _ w.numbers) (right-true _ _ w.numbers) s
+command_reads (commands.Unshelve shelved change files) w s = arguments.unshelve_reads shelved change files (and_parts _ _ w.numbers).0 (and_parts _ _ w.numbers).1 s
 command_reads (commands.DescribeShelved change) w s = words.describe_shelved_reads change w.numbers
 command_reads (commands.JobShow None) w s = words.no_job_reads
 command_reads (commands.JobShow (Some job)) w s = words.job_show_reads job s

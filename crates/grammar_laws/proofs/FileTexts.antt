@@ -3,6 +3,7 @@ use Rattle.std.proofs.Common.{◌≡◌, ℕ, zero, suc, Bool, true, false, List
 use Rattle.std.specs.Prelude.{◌&&◌, ◌||◌, not, nat_lt, codes, if◌then◌else◌}
 use Rattle.std.proofs.lemmas.Bool.Decides.{nat_tests}
 use Rattle.std.specs.List.{position, list_any}
+use Rattle.std.proofs.lemmas.Bool.{and_parts}
 use Rattle.depot_rows.specs.depot_path.Answers.{◌>>=◌, on_err}
 use Rattle.depot_rows.specs.depot_path.Bytes.{is_among}
 use Rattle.depot_rows.specs.depot_path.Path.{begins_with_slashes, has_empty_component, has_dot_component, is_text, first_fault, unless}
@@ -20,7 +21,6 @@ use Rattle.depot_rows.specs.depot_model.declared.command.FileArgument.{FileArgum
 use Rattle.depot_rows.specs.depot_model.declared.command.PatternArgument.{PatternArgument}
 use Rattle.depot_rows.specs.depot_model.declared.request.WordFault.{WordFault}
 use Rattle.depot_rows.specs.depot_model.declared.request.WordFault.TheVariants.{BadUsage, BadPath, BadRevision}
-use Rattle.depot_rows.proofs.Keys.{left-true, right-true}
 use Rattle.command_words.specs.Arguments as spec
 use Rattle.command_words.specs.Fields as fields
 use Rattle.command_words.specs.Options.{Given, invocation, is_option}
@@ -170,8 +170,8 @@ module _ (command : List ℕ) (takes : _) where
   fits_where : (test : List Piece → Bool) → ((pattern : List Piece) → spec.is_pattern_taken takes pattern ≡ test pattern) → (text : List ℕ) (given : FileSpec) → (asks_head given && test given.pattern) ≡ true
       → spec.fit command takes text given ≡ Ok given
   fits_where test same text given e =
-      let head = left-true (asks_head given) (test given.pattern) e in
-      fit_read command text takes given (no_range given.wanted head _) (no_revision given.wanted head _) (same given.pattern ∙ right-true (asks_head given) (test given.pattern) e)
+      let head = (and_parts (asks_head given) (test given.pattern) e).0 in
+      fit_read command text takes given (no_range given.wanted head _) (no_revision given.wanted head _) (same given.pattern ∙ (and_parts (asks_head given) (test given.pattern) e).1)
 
   module _ (options : List Given) (files : List FileArgument) (f : List FileArgument → Result Command WordFault) (y : Result Command WordFault) where
     some_then : (test : FileSpec → Bool) → ((text : List ℕ) (given : FileSpec) → test given ≡ true → spec.fit command takes text given ≡ Ok given) → SomeSpell test files → f files ≡ y

@@ -3,6 +3,7 @@ use Rattle.std.proofs.Common.{◌≡◌, ℕ, ◌<◌, ◌≤◌, ◌^◌, Bool,
 use Rattle.std.specs.Prelude.{◌&&◌, ◌||◌, not, nat_le, codes, decimal, option_map, if◌then◌else◌}
 use Rattle.std.specs.List.{list_all}
 use Rattle.std.proofs.lemmas.Bool.Decides.{nat_tests}
+use Rattle.std.proofs.lemmas.Bool.{and_parts}
 use Rattle.depot_rows.specs.depot_path.Answers.{◌>>=◌}
 use Rattle.depot_rows.specs.depot_path.Bytes.{same, is_digit}
 use Rattle.depot_rows.specs.depot_path.Digits.{number_of, is_digits, is_number as fits}
@@ -10,7 +11,7 @@ use Rattle.depot_rows.specs.depot_path.Name.{is_name}
 use Rattle.depot_rows.specs.depot_model.Types.{is_type, printed_type, is_printed_type}
 use Rattle.depot_rows.specs.depot_model.WellFormed.{is_type_or_none, is_free}
 use Rattle.depot_rows.specs.depot_model.declared.request.WordFault.TheVariants.{BadUsage, BadNumber}
-use Rattle.depot_rows.proofs.Keys.{left-true, right-true, same-is}
+use Rattle.depot_rows.proofs.Keys.{same-is}
 use Rattle.depot_facts.proofs.Decimals.{written, number_decimal, decimal_digits}
 use Rattle.command_words.proofs.Giving.{both}
 use Rattle.command_words.specs.Fields.{optional}
@@ -77,7 +78,7 @@ number_plain n = digits (decimal n) (decimal_digits n)
 
     digits : (ds : List ℕ) → list_all is_digit ds ≡ true → not (is_option ds) ≡ true
     digits [] all = refl
-    digits (d ∷ ds) all = no_dash d ds (is_option (d ∷ ds)) refl (left-true (is_digit d) (list_all is_digit ds) all)
+    digits (d ∷ ds) all = no_dash d ds (is_option (d ∷ ds)) refl (and_parts (is_digit d) (list_all is_digit ds) all).0
 
 -- ---- names and types
 
@@ -85,12 +86,12 @@ pub name_read : (command word : List ℕ) → is_name word ≡ true → name com
 name_read command word is = ap (λ (b : Bool). if b then Ok word else Err (BadUsage command)) is
 
 pub type_fits : (type : List ℕ) → is_printed_type type ≡ true → is_type type ≡ true
-type_fits type is = left-true (is_type type) (same (printed_type type) type) is
+type_fits type is = (and_parts (is_type type) (same (printed_type type) type) is).0
 
 pub type_read : (command type : List ℕ) → is_printed_type type ≡ true → file_type command type ≡ Ok type
 type_read command type is =
     ap (λ (b : Bool). if b then Ok (printed_type type) else Err (BadUsage command)) (type_fits type is)
-    ∙ ap Ok (same-is (printed_type type) type (right-true (is_type type) (same (printed_type type) type) is))
+    ∙ ap Ok (same-is (printed_type type) type (and_parts (is_type type) (same (printed_type type) type) is).1)
 
 pub free_read : (command word : List ℕ) → is_free word ≡ true → is_name word ≡ true → free_name command word ≡ Ok word
 free_read command word free is =

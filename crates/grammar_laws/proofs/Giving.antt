@@ -2,6 +2,7 @@
 use Rattle.std.proofs.Common.{◌≡◌, ℕ, ◌≤◌, Bool, true, false, List, [], ◌∷◌, ◌++◌, Some, Result, Ok, Err, refl, sym, ap, ◌∙◌, arith}
 use Rattle.std.specs.Prelude.{◌&&◌, not, nat_le}
 use Rattle.std.proofs.lemmas.Bool.Decides.{nat_tests}
+use Rattle.std.proofs.lemmas.Bool.{and_parts}
 use Rattle.depot_rows.specs.depot_path.Answers.{◌>>=◌, on_err}
 use Rattle.depot_rows.specs.depot_path.Digits.{number_of, is_digits, is_number as fits}
 use Rattle.depot_rows.specs.depot_path.Pattern.{pattern_of}
@@ -14,7 +15,6 @@ use Rattle.depot_rows.specs.depot_model.declared.command.FileArgument.{FileArgum
 use Rattle.depot_rows.specs.depot_model.declared.command.PatternArgument.{PatternArgument}
 use Rattle.depot_rows.specs.depot_model.declared.request.WordFault.{WordFault}
 use Rattle.depot_rows.specs.depot_model.declared.request.WordFault.TheVariants.{BadUsage, BadPath, BadNumber}
-use Rattle.depot_rows.proofs.Keys.{right-true}
 use Rattle.command_words.specs.Arguments as spec
 use Rattle.command_words.specs.Options.{Invocation, State, Ready, Waiting, given, invocation, is_option, next_kind, after_option, parted}
 use Rattle.command_words.specs.Values.{most_value, value, checked}
@@ -120,7 +120,7 @@ module _ (command : List ℕ) (takes : _) (test : FileSpec → Bool)
 
 value_given : (command word : List ℕ) → Gives (λ n. n ≤ most_value) (value command word)
 value_given command word =
-    given_where (λ n. n ≤ most_value) (fits most_value word) (number_of word) (BadNumber command) (λ h. at_most (number_of word) (right-true (is_digits word) (nat_le (number_of word) most_value) h))
+    given_where (λ n. n ≤ most_value) (fits most_value word) (number_of word) (BadNumber command) (λ h. at_most (number_of word) (and_parts (is_digits word) (nat_le (number_of word) most_value) h).1)
   where
     at_most : (n : ℕ) → nat_le n most_value ≡ true → n ≤ most_value
     at_most n e = grind (arith, nat_tests)

@@ -4,7 +4,6 @@ use Rattle.std.specs.Prelude.{◌==◌, codes, option_map, if◌then◌else◌}
 use Rattle.std.specs.List.{list_all, onto_first}
 use Rattle.depot_rows.specs.depot_path.Name.{is_name, is_barred}
 use Rattle.depot_rows.specs.depot_model.declared.request.Caller.{Caller}
-use Rattle.depot_rows.proofs.Keys.{left-true, right-true}
 use Rattle.wire_text.specs.Head.{head_of, head_of_parts, are_names}
 use Rattle.wire_text.specs.Parts.{parted, IsFree}
 use Rattle.wire_text.specs.declared.head.Head.{Head}
@@ -13,7 +12,7 @@ use Rattle.wire_text.proofs.Heads.{parted_whole}
 use Rattle.wire_text.proofs.Separators.{free_append}
 use Rattle.grammar_laws.specs.ScriptText.{spaced, head_line, is_caller, is_one_word, is_head}
 use Rattle.grammar_laws.proofs.Bytes.{free_of, name_free}
-use Rattle.std.proofs.lemmas.Bool.{not-true}
+use Rattle.std.proofs.lemmas.Bool.{not-true, and_parts}
 
 -- ---- words with one space between
 
@@ -44,22 +43,22 @@ module _ (c : ℕ) (barred : is_barred c ≡ true) where
 patterns_spaceless : (patterns : List (List ℕ)) → list_all is_one_word patterns ≡ true → AreFree 0x20 patterns
 patterns_spaceless [] all = tt
 patterns_spaceless (pattern ∷ patterns) all =
-    (free_of (λ x. x == 0x20) 0x20 refl pattern (not-true _ (left-true _ _ (left-true _ _ all))), patterns_spaceless patterns (right-true _ _ all))
+    (free_of (λ x. x == 0x20) 0x20 refl pattern (not-true _ (and_parts _ _ (and_parts _ _ all).0).0), patterns_spaceless patterns (and_parts _ _ all).1)
 
 patterns_lineless : (patterns : List (List ℕ)) → list_all is_one_word patterns ≡ true → AreFree 0x0A patterns
 patterns_lineless [] all = tt
 patterns_lineless (pattern ∷ patterns) all =
-    (free_of (λ x. x == 0x0A) 0x0A refl pattern (not-true _ (right-true _ _ (left-true _ _ all))), patterns_lineless patterns (right-true _ _ all))
+    (free_of (λ x. x == 0x0A) 0x0A refl pattern (not-true _ (and_parts _ _ (and_parts _ _ all).0).1), patterns_lineless patterns (and_parts _ _ all).1)
 
 module _ (caller : Caller) (is : is_caller caller ≡ true) where
   user_is : is_name caller.user ≡ true
-  user_is = left-true _ _ (left-true _ _ is)
+  user_is = (and_parts _ _ (and_parts _ _ is).0).0
 
   client_is : is_name caller.client ≡ true
-  client_is = right-true _ _ (left-true _ _ is)
+  client_is = (and_parts _ _ (and_parts _ _ is).0).1
 
   host_is : is_name caller.host ≡ true
-  host_is = right-true _ _ is
+  host_is = (and_parts _ _ is).1
 
   session_names : (c : ℕ) → is_barred c ≡ true → AreFree c (caller.user ∷ caller.client ∷ caller.host ∷ [])
   session_names c barred = caller_free c barred caller.user caller.client caller.host [] user_is client_is host_is tt
@@ -77,16 +76,16 @@ head_reads (Session caller) is =
     ap head_of_parts (spaced_parted (codes "session") (caller.user ∷ caller.client ∷ caller.host ∷ []) (refl, (refl, (refl, (refl, (refl, (refl, (refl, tt))))))) (session_names caller is 0x20 refl))
     ∙ ap (option_map Session) (named caller is)
 head_reads (Replica caller patterns) is =
-    let names = left-true _ _ (left-true _ _ is) in
-    let words = right-true _ _ (left-true _ _ is) in
+    let names = (and_parts _ _ (and_parts _ _ is).0).0 in
+    let words = (and_parts _ _ (and_parts _ _ is).0).1 in
     ap head_of_parts (spaced_parted (codes "replica") (caller.client ∷ caller.user ∷ caller.host ∷ patterns) (refl, (refl, (refl, (refl, (refl, (refl, (refl, tt))))))) (replica_names caller names 0x20 patterns refl (patterns_spaceless patterns words)))
-    ∙ (ap (λ (b : Bool). if b then option_map (λ (c : Caller). Replica c patterns) (are_names caller.user caller.client caller.host) else None) (right-true _ _ is)
+    ∙ (ap (λ (b : Bool). if b then option_map (λ (c : Caller). Replica c patterns) (are_names caller.user caller.client caller.host) else None) (and_parts _ _ is).1
     ∙ ap (option_map (λ (c : Caller). Replica c patterns)) (named caller names))
 
 pub head_free : (head : Head) → is_head head ≡ true → IsFree 0x0A (head_line head)
 head_free (Session caller) is =
     spaced_free (codes "session") (caller.user ∷ caller.client ∷ caller.host ∷ []) (refl, (refl, (refl, (refl, (refl, (refl, (refl, tt))))))) (session_names caller is 0x0A refl)
 head_free (Replica caller patterns) is =
-    let names = left-true _ _ (left-true _ _ is) in
-    let words = right-true _ _ (left-true _ _ is) in
+    let names = (and_parts _ _ (and_parts _ _ is).0).0 in
+    let words = (and_parts _ _ (and_parts _ _ is).0).1 in
     spaced_free (codes "replica") (caller.client ∷ caller.user ∷ caller.host ∷ patterns) (refl, (refl, (refl, (refl, (refl, (refl, (refl, tt))))))) (replica_names caller names 0x0A patterns refl (patterns_lineless patterns words))

@@ -12,7 +12,6 @@ use Rattle.depot_rows.proofs.depot_path.Paths.{prints_path}
 use Rattle.depot_rows.proofs.spec_form.Utf8.{ascii-cons, utf8_both}
 use Rattle.depot_rows.specs.depot_model.declared.line.Line.{Line}
 use Rattle.depot_rows.specs.depot_model.declared.line.Line.TheVariants.{Words, Bad}
-use Rattle.depot_rows.proofs.Keys.{left-true, right-true}
 use Rattle.depot_facts.proofs.Decimals.{written, number_decimal}
 use Rattle.command_words.proofs.Giving.{both}
 use Rattle.wire_text.specs.Parts.{upto, past, IsFree, last_cut}
@@ -22,7 +21,7 @@ use Rattle.wire_text.proofs.Separators.{in_line, past_line, upto_line, last_line
 use Rattle.wire_text.proofs.WordLists.{quoted_says}
 use Rattle.grammar_laws.specs.ScriptText.{quoted, command_line, is_word, is_line}
 use Rattle.grammar_laws.proofs.Bytes.{free_of, decimal_free, decimal_short, path_free, path_short}
-use Rattle.std.proofs.lemmas.Bool.{not-true}
+use Rattle.std.proofs.lemmas.Bool.{not-true, and_parts}
 
 -- ---- paths and lengths
 
@@ -86,13 +85,13 @@ command_is client waits (Words words) = refl
 command_is client waits Bad = refl
 
 word_free : (word : List ℕ) → is_word word ≡ true → IsFree 0x22 word
-word_free word is = free_of (λ x. x == 0x22) 0x22 refl word (not-true _ (right-true _ _ is))
+word_free word is = free_of (λ x. x == 0x22) 0x22 refl word (not-true _ (and_parts _ _ is).1)
 
 word_plain : (word : List ℕ) → is_word word ≡ true → list_any is_control word ≡ false
-word_plain word is = not-true _ (right-true _ _ (left-true _ _ is))
+word_plain word is = not-true _ (and_parts _ _ (and_parts _ _ is).0).1
 
 word_utf8 : (word : List ℕ) → is_word word ≡ true → is_utf8 word ≡ true
-word_utf8 word is = left-true _ _ (left-true _ _ is)
+word_utf8 word is = (and_parts _ _ (and_parts _ _ is).0).0
 
 first_quoted : (word more : List ℕ) → IsFree 0x22 word → quoted_word (word ++ 0x22 ∷ 0x20 ∷ more) ≡ Some word
 first_quoted word more free =
@@ -114,33 +113,33 @@ behind_it word words text e = ap (with_word (Some word)) e
 pub words_quoted : (words : List (List ℕ)) → list_all is_word words ≡ true → words_from 0 (quoted words) ≡ Some words
 words_quoted [] all = refl
 words_quoted (word ∷ words) all =
-    one_quoted word (quoted words) (word_free word (left-true _ _ all)) ∙ behind_it word words (quoted words) (words_quoted words (right-true _ _ all))
+    one_quoted word (quoted words) (word_free word (and_parts _ _ all).0) ∙ behind_it word words (quoted words) (words_quoted words (and_parts _ _ all).1)
 
 any_both : (a b : List ℕ) → list_any is_control a ≡ false → list_any is_control b ≡ false → list_any is_control (a ++ b) ≡ false
 any_both a b e f = list_any-append is_control a b ∙ (λ i. e i || f i)
 
 quoted_plain : (words : List (List ℕ)) → list_all is_word words ≡ true → list_any is_control (quoted words) ≡ false
 quoted_plain [] all = refl
-quoted_plain (word ∷ words) all = any_both word (0x22 ∷ 0x20 ∷ quoted words) (word_plain word (left-true _ _ all)) (quoted_plain words (right-true _ _ all))
+quoted_plain (word ∷ words) all = any_both word (0x22 ∷ 0x20 ∷ quoted words) (word_plain word (and_parts _ _ all).0) (quoted_plain words (and_parts _ _ all).1)
 
 quoted_utf8 : (words : List (List ℕ)) → list_all is_word words ≡ true → is_utf8 (quoted words) ≡ true
 quoted_utf8 [] all = refl
 quoted_utf8 (word ∷ words) all =
     ascii-cons 0x22 (word ++ 0x22 ∷ 0x20 ∷ quoted words) (omega arith)
-    ∙ utf8_both word (0x22 ∷ 0x20 ∷ quoted words) (word_utf8 word (left-true _ _ all))
-    (ascii-cons 0x22 (0x20 ∷ quoted words) (omega arith) ∙ (ascii-cons 0x20 (quoted words) (omega arith) ∙ quoted_utf8 words (right-true _ _ all)))
+    ∙ utf8_both word (0x22 ∷ 0x20 ∷ quoted words) (word_utf8 word (and_parts _ _ all).0)
+    (ascii-cons 0x22 (0x20 ∷ quoted words) (omega arith) ∙ (ascii-cons 0x20 (quoted words) (omega arith) ∙ quoted_utf8 words (and_parts _ _ all).1))
 
 clean_line : (words : List (List ℕ)) → list_all is_word words ≡ true → is_clean (0x20 ∷ quoted words) ≡ true
 clean_line words all = both _ _ (ascii-cons 0x20 (quoted words) (omega arith) ∙ quoted_utf8 words all) (ap not (quoted_plain words all))
 
 pub line_reads : (line : Line) → is_line line ≡ true → line_of (command_line line) ≡ line
 line_reads (Words words) is =
-    let all = left-true _ _ is in
+    let all = (and_parts _ _ is).0 in
     ap (λ (b : Bool). if b then line_of_words (words_from 0 (quoted words)) else Bad) (clean_line words all)
     ∙ (ap line_of_words (words_quoted words all)
-    ∙ ap (λ (b : Bool). if b then Words words else Bad) (right-true _ _ is))
+    ∙ ap (λ (b : Bool). if b then Words words else Bad) (and_parts _ _ is).1)
 line_reads Bad is = refl
 
 pub line_free : (line : Line) → is_line line ≡ true → IsFree 0x0A (command_line line)
-line_free (Words words) is = (refl, free_of is_control 0x0A refl (quoted words) (quoted_plain words (left-true _ _ is)))
+line_free (Words words) is = (refl, free_of is_control 0x0A refl (quoted words) (quoted_plain words (and_parts _ _ is).0))
 line_free Bad is = (refl, tt)

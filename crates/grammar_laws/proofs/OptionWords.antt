@@ -7,14 +7,13 @@ use Rattle.depot_rows.specs.depot_model.declared.command.Command.{Command}
 use Rattle.depot_rows.specs.depot_model.declared.line.Line.TheVariants.{Words}
 use Rattle.depot_rows.specs.depot_model.declared.request.WordFault.{WordFault}
 use Rattle.depot_rows.specs.depot_model.declared.request.WordFault.TheVariants.{UnknownCommand}
-use Rattle.depot_rows.proofs.Keys.{left-true, right-true}
 use Rattle.command_words.specs.Choice.{form_of}
 use Rattle.command_words.specs.Options.{Given, Invocation, State, Ready, Waiting, given, invocation, is_option, next_kind, after_option, parted}
 use Rattle.command_words.specs.Reading.{form_command, known_command, command_of}
 use Rattle.command_words.specs.Table.{table, is_command, takes_value}
 use Rattle.command_words.specs.Values.{is_value, no_value}
 use Rattle.grammar_laws.specs.CommandText.{OptionText, Flag, Valued, option_words, CommandText, text_of, words_of}
-use Rattle.std.proofs.lemmas.Bool.{not-true}
+use Rattle.std.proofs.lemmas.Bool.{not-true, and_parts}
 
 -- an option as it is kept
 abbrev pub given_by : OptionText → Given
@@ -67,8 +66,8 @@ module _ (command : List ℕ) (done : List Given) (option : List ℕ) where
   value_read value words e =
       given_ok (λ kind. takes_value kind && is_value kind value) (next_kind command done option) (λ kind. parted command (after_option done option kind) (value ∷ words)) (parted command (Ready (done ++ given option value ∷ [])) words) e
       (λ kind h.
-      ap (λ (s : State). parted command s (value ∷ words)) (after_valued kind (left-true (takes_value kind) (is_value kind value) h))
-      ∙ ap (λ (b : Bool). (if b then Ok value else Err (no_value kind command)) >>= (λ v. parted command (Ready (done ++ given option v ∷ [])) words)) (right-true (takes_value kind) (is_value kind value) h))
+      ap (λ (s : State). parted command s (value ∷ words)) (after_valued kind (and_parts (takes_value kind) (is_value kind value) h).0)
+      ∙ ap (λ (b : Bool). (if b then Ok value else Err (no_value kind command)) >>= (λ v. parted command (Ready (done ++ given option v ∷ [])) words)) (and_parts (takes_value kind) (is_value kind value) h).1)
 
 arguments_read : (command : List ℕ) (done : List Given) (arguments : List (List ℕ)) → is_plain arguments ≡ true → parted command (Ready done) arguments ≡ Ok (invocation command done arguments)
 arguments_read command done [] plain = refl
@@ -84,17 +83,17 @@ options_read command done [] arguments can plain =
     arguments_read command done arguments plain ∙ ap (λ (g : List Given). Ok (invocation command g arguments)) (sym (append-nil done))
 options_read command done (Flag option ∷ options) arguments can plain =
     let words : List (List ℕ) = flat_map option_words options ++ arguments in
-    let first = left-true _ (can_read command (done ++ given option [] ∷ []) options) can in
-    option_there command done option words (left-true (is_option option) _ first)
-    ∙ (flag_read command done option words (right-true (is_option option) _ first)
-    ∙ (options_read command (done ++ given option [] ∷ []) options arguments (right-true _ (can_read command (done ++ given option [] ∷ []) options) can) plain
+    let first = (and_parts _ (can_read command (done ++ given option [] ∷ []) options) can).0 in
+    option_there command done option words (and_parts (is_option option) _ first).0
+    ∙ (flag_read command done option words (and_parts (is_option option) _ first).1
+    ∙ (options_read command (done ++ given option [] ∷ []) options arguments (and_parts _ (can_read command (done ++ given option [] ∷ []) options) can).1 plain
     ∙ ap (λ (g : List Given). Ok (invocation command g arguments)) (append_assoc done (given option [] ∷ []) (map given_by options))))
 options_read command done (Valued option value ∷ options) arguments can plain =
     let words : List (List ℕ) = flat_map option_words options ++ arguments in
-    let first = left-true _ (can_read command (done ++ given option value ∷ []) options) can in
-    option_there command done option (value ∷ words) (left-true (is_option option) _ first)
-    ∙ (value_read command done option value words (right-true (is_option option) _ first)
-    ∙ (options_read command (done ++ given option value ∷ []) options arguments (right-true _ (can_read command (done ++ given option value ∷ []) options) can) plain
+    let first = (and_parts _ (can_read command (done ++ given option value ∷ []) options) can).0 in
+    option_there command done option (value ∷ words) (and_parts (is_option option) _ first).0
+    ∙ (value_read command done option value words (and_parts (is_option option) _ first).1
+    ∙ (options_read command (done ++ given option value ∷ []) options arguments (and_parts _ (can_read command (done ++ given option value ∷ []) options) can).1 plain
     ∙ ap (λ (g : List Given). Ok (invocation command g arguments)) (append_assoc done (given option value ∷ []) (map given_by options))))
 
 -- ---- a command

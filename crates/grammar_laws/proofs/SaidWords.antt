@@ -9,30 +9,29 @@ use Rattle.depot_rows.specs.depot_path.Bytes.{is_among, is_control}
 use Rattle.depot_rows.specs.depot_path.Utf8.{is_utf8}
 use Rattle.depot_rows.proofs.spec_form.Utf8.{utf8_front, utf8_rest, ascii-cons}
 use Rattle.depot_rows.specs.depot_model.declared.line.Line.TheVariants.{Words, Bad}
-use Rattle.depot_rows.proofs.Keys.{left-true, right-true, number-is}
+use Rattle.depot_rows.proofs.Keys.{number-is}
 use Rattle.command_words.proofs.Giving.{both}
 use Rattle.wire_text.specs.Parts.{upto, past, is_in, IsFree}
 use Rattle.wire_text.specs.Words.{words_from, with_word, quoted_word, plain_word, is_apart, is_clean, line_of, line_of_words}
 use Rattle.wire_text.proofs.Separators.{split_upto, free_upto}
 use Rattle.grammar_laws.specs.ScriptText.{is_word, is_line}
-use Rattle.grammar_laws.proofs.Bytes.{or_left, or_right}
-use Rattle.std.proofs.lemmas.Bool.{not-true}
+use Rattle.std.proofs.lemmas.Bool.{not-true, and_parts, or_parts}
 
 -- ---- parts of a clean text
 
 plain_parts : (a b : List ℕ) → list_any is_control (a ++ b) ≡ false → (list_any is_control a ≡ false) × (list_any is_control b ≡ false)
 plain_parts a b e =
     let parts : (list_any is_control a || list_any is_control b) ≡ false = sym (list_any-append is_control a b) ∙ e in
-    (or_left _ _ parts, or_right _ _ parts)
+    ((or_parts _ _ parts).0, (or_parts _ _ parts).1)
 
 clean_front : (a b : List ℕ) (x : ℕ) → x < 0x80 → is_clean (a ++ x ∷ b) ≡ true → is_clean a ≡ true
 clean_front a b x low e =
-    both (is_utf8 a) (not (list_any is_control a)) (utf8_front a x b low (left-true _ _ e)) (ap not (plain_parts a (x ∷ b) (not-true _ (right-true _ _ e))).0)
+    both (is_utf8 a) (not (list_any is_control a)) (utf8_front a x b low (and_parts _ _ e).0) (ap not (plain_parts a (x ∷ b) (not-true _ (and_parts _ _ e).1)).0)
 
 clean_rest : (a b : List ℕ) (x : ℕ) → x < 0x80 → is_clean (a ++ x ∷ b) ≡ true → is_clean b ≡ true
 clean_rest a b x low e =
-    both (is_utf8 b) (not (list_any is_control b)) (utf8_rest a x b low (left-true _ _ e))
-    (ap not (or_right (is_control x) (list_any is_control b) (plain_parts a (x ∷ b) (not-true _ (right-true _ _ e))).1))
+    both (is_utf8 b) (not (list_any is_control b)) (utf8_rest a x b low (and_parts _ _ e).0)
+    (ap not (or_parts (is_control x) (list_any is_control b) (plain_parts a (x ∷ b) (not-true _ (and_parts _ _ e).1)).1).1)
 
 pub not_among : (c : ℕ) (text : List ℕ) → IsFree c text → is_among text c ≡ false
 not_among c [] free = refl
@@ -87,7 +86,7 @@ free_where : (c : ℕ) (text : List ℕ) → is_in c text ≡ false → IsFree c
 free_where c text e = subst (IsFree c) (whole_upto c text e) (free_upto c text)
 
 clean_spaced : (text : List ℕ) → is_clean text ≡ true → is_clean (0x20 ∷ text) ≡ true
-clean_spaced text e = both (is_utf8 (0x20 ∷ text)) (not (list_any is_control text)) (ascii-cons 0x20 text (omega arith) ∙ left-true _ _ e) (right-true (is_utf8 text) (not (list_any is_control text)) e)
+clean_spaced text e = both (is_utf8 (0x20 ∷ text)) (not (list_any is_control text)) (ascii-cons 0x20 text (omega arith) ∙ (and_parts _ _ e).0) (and_parts (is_utf8 text) (not (list_any is_control text)) e).1
 
 module _ (b : ℕ) (text : List ℕ) (differs : (b == 0x20) ≡ false) (clean : is_clean (b ∷ text) ≡ true) where
   first_is : upto 0x20 (b ∷ text) ≡ b ∷ upto 0x20 text

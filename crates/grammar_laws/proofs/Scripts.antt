@@ -4,9 +4,10 @@ use Rattle.std.specs.Prelude.{nat_le, codes, decimal, flat_map, is_some}
 use Rattle.std.specs.List.{list_all}
 use Rattle.std.proofs.lemmas.Bool.Decides.{nat_tests}
 use Rattle.std.specs.Option.{option_map_or}
+use Rattle.std.proofs.lemmas.Bool.{and_parts}
 use Rattle.depot_rows.specs.depot_path.Path.{is_path, printed}
 use Rattle.depot_rows.specs.depot_model.declared.line.Line.{Line}
-use Rattle.depot_rows.proofs.Keys.{left-true, right-true, number-is}
+use Rattle.depot_rows.proofs.Keys.{number-is}
 use Rattle.wire_text.specs.Head.{client_of}
 use Rattle.wire_text.specs.LineKind.{is_within}
 use Rattle.wire_text.specs.Reading.{point_at}
@@ -62,25 +63,25 @@ module _ (client : List ℕ) (place number : ℕ) where
       → rest_of (point_at client place number None) (entry_text entry ++ more)
       ≡ with_front (entry ∷ []) (rest_of (point_at client (place + length (entry_text entry)) (number_after number (Some entry)) None) more)
   entry_says (Put content) is few fits more =
-      let path : is_path content.path ≡ true = left-true _ _ (left-true _ _ is) in
-      let within : is_within client content.path ≡ true = right-true (is_path content.path) (is_within client content.path) (left-true _ _ is) in
+      let path : is_path content.path ≡ true = (and_parts _ _ (and_parts _ _ is).0).0 in
+      let within : is_within client content.path ≡ true = (and_parts (is_path content.path) (is_within client content.path) (and_parts _ _ is).0).1 in
       let n : ℕ = length content.bytes in
       let start : List ℕ = (codes "file " ++ printed content.path ++ codes " ") ++ decimal n in
       let size : length (line_text start ++ line_text content.bytes) ≡ length start + 1 + n + 1 =
       length-append (line_text start) (line_text content.bytes) ∙ omega (arith, length-append start (0x0A ∷ []), length-append content.bytes (0x0A ∷ [])) in
       block_says (point_at client place number None) start (file_free content.path path n) (file_short content.path path n) n content.bytes (λ b. Some (Put (record { path = content.path; bytes = b }))) (λ b. None) refl
-      (λ x. ap (λ k. part_of (point_at client place number None) start k x) (file_is client content.path false path within n (right-true _ _ is))) fits more
+      (λ x. ap (λ k. part_of (point_at client place number None) start k x) (file_is client content.path false path within n (and_parts _ _ is).1)) fits more
       ∙ ap (λ (k : ℕ). with_front (Put content ∷ []) (rest_of (point_at client k number None) more)) (omega (arith, size))
   entry_says (Clear path) is few fits more =
-      let good : is_path path ≡ true = left-true _ _ is in
+      let good : is_path path ≡ true = (and_parts _ _ is).0 in
       let line : List ℕ = codes "clear " ++ printed path in
       let part : Part = record { size = length line + 1; entry = Some (Clear path); input = None } in
       line_says (point_at client place number None) line (clear_free path good) (clear_short path good) part
-      (λ x. ap (λ k. part_of (point_at client place number None) line k x) (clear_is client path false good (right-true _ _ is))) refl fits more
+      (λ x. ap (λ k. part_of (point_at client place number None) line k x) (clear_is client path false good (and_parts _ _ is).1)) refl fits more
       ∙ ap (λ (k : ℕ). with_front (Clear path ∷ []) (rest_of (point_at client k number None) more)) (omega (arith, length-append line (0x0A ∷ [])))
   entry_says (Command item) is few fits more =
-      let same : item.number ≡ number = number-is item.number number (left-true _ _ (left-true _ _ is)) in
-      input_says client number item.line (right-true _ _ is) (short_by (length (command_line item.line)) few) place item.input (right-true _ _ (left-true _ _ is)) fits more
+      let same : item.number ≡ number = number-is item.number number (and_parts _ _ (and_parts _ _ is).0).0 in
+      input_says client number item.line (and_parts _ _ is).1 (short_by (length (command_line item.line)) few) place item.input (and_parts _ _ (and_parts _ _ is).0).1 fits more
       ∙ ap (λ (k : ℕ). with_front (Command (record { number = k; line = item.line; input = item.input }) ∷ []) (rest_of (point_at client (place + length (entry_text (Command item))) (number + 1) None) more)) (sym same)
 
 -- ---- all of them
@@ -90,8 +91,8 @@ pub entries_say : (client : List ℕ) (place number : ℕ) (entries : List Entry
 entries_say client place number [] are few fits = says_end (point_at client place number None) [] fits None refl
 entries_say client place number (entry ∷ entries) are few fits =
     let size : length (entry_text entry ++ flat_map entry_text entries) ≡ length (entry_text entry) + length (flat_map entry_text entries) = length-append (entry_text entry) (flat_map entry_text entries) in
-    entry_says client place number entry (left-true _ _ are) (left-true _ _ few) (omega (arith, fits, size)) (flat_map entry_text entries)
-    ∙ ap (with_front (entry ∷ [])) (entries_say client (place + length (entry_text entry)) (number_after number (Some entry)) entries (right-true _ _ are) (right-true _ _ few) (omega (arith, fits, size)))
+    entry_says client place number entry (and_parts _ _ are).0 (and_parts _ _ few).0 (omega (arith, fits, size)) (flat_map entry_text entries)
+    ∙ ap (with_front (entry ∷ [])) (entries_say client (place + length (entry_text entry)) (number_after number (Some entry)) entries (and_parts _ _ are).1 (and_parts _ _ few).1 (omega (arith, fits, size)))
 
 pub script_reads : (head : Head) (entries : List Entry) → IsScript head entries → FitsScript head entries → IsWhole (script_text head entries) head entries
 script_reads head entries is fits =

@@ -3,7 +3,7 @@ use Rattle.std.proofs.Common.{◌≡◌, ℕ, Bool, true, false, List, [], ◌�
 use Rattle.std.specs.Prelude.{◌&&◌, ◌||◌, codes, decimal, filter, if◌then◌else◌, is_some, nat_lt, option_and_then}
 use Rattle.std.specs.List.{list_all, list_any}
 use Rattle.std.specs.Option.{option_map_or}
-use Rattle.std.proofs.lemmas.Bool.{true≢false}
+use Rattle.std.proofs.lemmas.Bool.{true≢false, and_parts}
 use Rattle.depot_rows.specs.depot_path.Bytes.{begins_with, same}
 use Rattle.depot_rows.specs.depot_path.Path.{is_path}
 use Rattle.depot_rows.specs.spec_form.Form.{FormValue}
@@ -14,7 +14,7 @@ use Rattle.depot_rows.specs.depot_model.Latest.{keys_of, spec, spec_name, spec_s
 use Rattle.depot_rows.specs.depot_model.Rules.{IsSound, value_in}
 use Rattle.depot_rows.specs.depot_model.Shelves.{is_kept, is_of_change, is_shelved, kept, shelf_name, shelf_paths}
 use Rattle.depot_rows.specs.depot_model.Values.{value_of}
-use Rattle.depot_rows.proofs.Keys.{same-is, same-self, left-true, right-true}
+use Rattle.depot_rows.proofs.Keys.{same-is, same-self}
 use Rattle.depot_facts.proofs.Found.{saved_shelf, shelf_there, spec_names, shelf_parts, spec_value}
 use Rattle.depot_facts.proofs.Members.{key_in}
 use Rattle.depot_facts.proofs.PathsTold.{kept_are}
@@ -39,7 +39,7 @@ module _ (test : List ℕ → Bool) where
           → nat_lt 0 (length (if b then x ∷ filter test xs else filter test xs)) ≡ true
           → (list_all is_path (filter test xs) ≡ true → nat_lt 0 (length (filter test xs)) ≡ true → (z : List ℕ) × (is_path z ≡ true) × (test z ≡ true))
           → (z : List ℕ) × (is_path z ≡ true) × (test z ≡ true)
-      go true e k l later = (x, left-true (is_path x) (list_all is_path (filter test xs)) k, e)
+      go true e k l later = (x, (and_parts (is_path x) (list_all is_path (filter test xs)) k).0, e)
       go false e k l later = later k l
 
 module _ (d : List Deed) (sound : IsSound d) (n : ℕ) where
@@ -110,7 +110,7 @@ module _ (d : List Deed) (sound : IsSound d) (n : ℕ) where
           let value : (field : List ℕ) → value_in ShelfShape field (printed_form form) ≡ value_of form field = spec_value d sound ShelfForm name form e in
           let shelf = saved_shelf d sound name form e in
           let of : value_of form (codes "Change") ≡ decimal n =
-          same-is (value_of form (codes "Change")) (decimal n) (right-true (same (value_of form (codes "State")) (codes "kept")) (same (value_of form (codes "Change")) (decimal n)) k) in
+          same-is (value_of form (codes "Change")) (decimal n) (and_parts (same (value_of form (codes "State")) (codes "kept")) (same (value_of form (codes "Change")) (decimal n)) k).1 in
           let named : name ≡ decimal n ++ 0x20 ∷ value_of form (codes "Path") =
           shelf.named ∙ (λ i. value (codes "Change") i ++ 0x20 ∷ value (codes "Path") i) ∙ (λ i. of i ++ 0x20 ∷ value_of form (codes "Path")) in
           ap (λ (text : List ℕ). begins_with text (decimal n ++ 0x20 ∷ [])) named ∙ begins_front (decimal n) (value_of form (codes "Path"))

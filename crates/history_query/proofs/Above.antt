@@ -3,7 +3,7 @@ use Rattle.std.proofs.Common.{◌≡◌, ℕ, suc, ◌+◌, ◌-◌, ◌<◌, �
 use Rattle.std.specs.Prelude.{◌||◌, ◌&&◌, ◌==◌, codes, drop, filter, filter_map, flat_map, if◌then◌else◌, length, nat_eq, take}
 use Rattle.std.specs.List.{cons_option, list_all, list_any, onto_first, slice_split}
 use Rattle.std.specs.Option.{option_to_list}
-use Rattle.std.proofs.lemmas.Bool.{eqb-true, false≢true}
+use Rattle.std.proofs.lemmas.Bool.{eqb-true, false≢true, and_parts}
 use Rattle.std.proofs.lemmas.Grind.{flat_map-append}
 use Rattle.std.proofs.lemmas.List.{drop_all, take-append-drop, take_more}
 use Rattle.depot_rows.proofs.depot_path.Rows.{begins_literal}
@@ -27,7 +27,7 @@ use Rattle.depot_rows.specs.depot_model.Deeds.{Deed}
 use Rattle.depot_rows.specs.depot_model.Revisions.{is_live_head}
 use Rattle.depot_rows.specs.depot_model.Rules.{IsSound}
 use Rattle.depot_rows.specs.depot_model.Steps.History.{directories, fronts, seen_paths}
-use Rattle.depot_rows.proofs.Keys.{left-true, right-true, same-is}
+use Rattle.depot_rows.proofs.Keys.{same-is}
 use Rattle.named_files.specs.Asked.{IsAsker, begins_at, is_begun}
 use Rattle.named_files.specs.declared.asker.Asker.{Asker}
 use Rattle.named_files.specs.declared.listing.Listing.TheVariants.{Submitted}
@@ -264,8 +264,8 @@ module _ (d : List Deed) (caller : Caller) where
     all_alone [] all = refl
     all_alone (p ∷ paths) all =
         fitting_on pattern (directories_of d caller pattern p) (flat_map (directories_of d caller pattern) paths) []
-        ∙ begun_alone p (left-true (is_path p) (list_all is_path paths) all) (all_fitting pattern (flat_map (directories_of d caller pattern) paths) [])
-        ∙ ap (all_fitting pattern (begun_directories d caller asker pattern p)) (all_alone paths (right-true (is_path p) (list_all is_path paths) all))
+        ∙ begun_alone p (and_parts (is_path p) (list_all is_path paths) all).0 (all_fitting pattern (flat_map (directories_of d caller pattern) paths) [])
+        ∙ ap (all_fitting pattern (begun_directories d caller asker pattern p)) (all_alone paths (and_parts (is_path p) (list_all is_path paths) all).1)
         ∙ sym (fitting_on pattern (begun_directories d caller asker pattern p) (all_directories d caller asker pattern paths) [])
 
     -- those of files are those of the files that begin so

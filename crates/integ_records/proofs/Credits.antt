@@ -3,7 +3,7 @@ use Rattle.std.proofs.Common.{◌≡◌, ◌⊎◌, ℕ, suc, Bool, true, false,
 use Rattle.std.specs.Prelude.{◌&&◌, ◌||◌, nat_le, filter, find, flat_map, IfSome, IsSome, IsSomeAnd, option_map, if◌then◌else◌}
 use Rattle.std.specs.List.{list_any}
 use Rattle.std.specs.Option.{option_map_or, option_to_list}
-use Rattle.std.proofs.lemmas.Bool.{true≢false}
+use Rattle.std.proofs.lemmas.Bool.{true≢false, and_parts}
 use Rattle.std.proofs.lemmas.Bool.Decides.{nat_tests}
 use Rattle.depot_rows.specs.depot_path.Bytes.{same}
 use Rattle.depot_rows.specs.depot_path.Path.{is_path, printed}
@@ -25,7 +25,7 @@ use Rattle.depot_rows.specs.depot_model.Revisions.{Revision, credited, credits_f
 use Rattle.depot_rows.specs.depot_model.Rows.{how_word}
 use Rattle.depot_rows.specs.depot_model.Rules.{IsCredit, IsCredited, IsMadeIn, IsPaired, IsRow, IsSound}
 use Rattle.depot_rows.proofs.Entries.{In}
-use Rattle.depot_rows.proofs.Keys.{at-is, left-true, right-true, same-is, same-self}
+use Rattle.depot_rows.proofs.Keys.{at-is, same-is, same-self}
 use Rattle.depot_rows.proofs.Spelled.{at_path-here}
 use Rattle.depot_rows.specs.Standing.{unplaced_at}
 use Rattle.depot_facts.proofs.Listed.{found_in, any_of, one_of, place_of}
@@ -211,15 +211,15 @@ module _ (d : List Deed) (sound : IsSound d) (s t : List ℕ) (is_s : is_path s 
       let r = one_of (has_credit (credits_from s n)) (revisions d t) h in
       let c = one_of (credits_from s n) ((r.0).entry).credits r.2 in
       let w : Written d t r.0 c.0 = writes d sound.paths t r.0 c.0 r.1 c.1 in
-      let begun = left-true (same (c.0).from s && nat_le (c.0).first n) (nat_le n (c.0).last) c.2 in
-      let from : (c.0).from ≡ s = same-is (c.0).from s (left-true (same (c.0).from s) (nat_le (c.0).first n) begun) in
+      let begun = (and_parts (same (c.0).from s && nat_le (c.0).first n) (nat_le n (c.0).last) c.2).0 in
+      let from : (c.0).from ≡ s = same-is (c.0).from s (and_parts (same (c.0).from s) (nat_le (c.0).first n) begun).0 in
       record {
         said = w.written;
         there = own_row d w.written w.there;
         to = (w.of).to;
         from = (w.of).from ∙ ap printed from;
-        first = ap (λ x. nat_le x n) (w.of).first ∙ right-true (same (c.0).from s) (nat_le (c.0).first n) begun;
-        last = ap (λ x. nat_le n x) (w.of).last ∙ right-true (same (c.0).from s && nat_le (c.0).first n) (nat_le n (c.0).last) c.2;
+        first = ap (λ x. nat_le x n) (w.of).first ∙ (and_parts (same (c.0).from s) (nat_le (c.0).first n) begun).1;
+        last = ap (λ x. nat_le n x) (w.of).last ∙ (and_parts (same (c.0).from s && nat_le (c.0).first n) (nat_le n (c.0).last) c.2).1;
       }
 
   -- the record of a credit of revision n of s, and the other one of its pair
@@ -271,15 +271,15 @@ module _ (d : List Deed) (sound : IsSound d) (s t : List ℕ) (is_s : is_path s 
 
     row_told : (row : Record) → In rows row → test row ≡ true → Told
     row_told (records.Integed z) there h =
-        let begun = left-true (same (printed t) z.to_file && true) (option_map_or (is_within n) (span_of_row (printed s) (records.Integed z)) false) h in
-        let within = spanned z (same z.from_file (printed s)) (right-true (same (printed t) z.to_file && true) (option_map_or (is_within n) (span_of_row (printed s) (records.Integed z)) false) h) in
+        let begun = (and_parts (same (printed t) z.to_file && true) (option_map_or (is_within n) (span_of_row (printed s) (records.Integed z)) false) h).0 in
+        let within = spanned z (same z.from_file (printed s)) (and_parts (same (printed t) z.to_file && true) (option_map_or (is_within n) (span_of_row (printed s) (records.Integed z)) false) h).1 in
         record {
           said = z;
           there = sym (has (integed_key z) refl) ∙ in_there rows up (records.Integed z) there;
-          to = sym (same-is (printed t) z.to_file (left-true (same (printed t) z.to_file) true begun));
+          to = sym (same-is (printed t) z.to_file (and_parts (same (printed t) z.to_file) true begun).0);
           from = same-is z.from_file (printed s) within.0;
-          first = left-true (nat_le z.start_from n) (nat_le n z.end_from) within.1;
-          last = right-true (nat_le z.start_from n) (nat_le n z.end_from) within.1;
+          first = (and_parts (nat_le z.start_from n) (nat_le n z.end_from) within.1).0;
+          last = (and_parts (nat_le z.start_from n) (nat_le n z.end_from) within.1).1;
         }
     row_told (records.Counter r) there h = absurd cc
     row_told (records.Group r) there h = absurd cc

@@ -3,7 +3,7 @@ use Rattle.std.proofs.Common.{◌≡◌, ℕ, suc, Bool, true, false, List, [], 
 use Rattle.std.specs.Prelude.{◌&&◌, ◌==◌, IsSome, codes, if◌then◌else◌, nat_le}
 use Rattle.std.specs.List.{cons_option, filter_map, list_all}
 use Rattle.std.specs.Option.{option_map_or}
-use Rattle.std.proofs.lemmas.Bool.{false≢true, true≢false}
+use Rattle.std.proofs.lemmas.Bool.{false≢true, true≢false, and_parts}
 use Rattle.std.proofs.lemmas.Bool.Decides.{Decides-eqb}
 use Rattle.depot_rows.specs.depot_path.Bytes.{begins_with, is_digit, same}
 use Rattle.depot_rows.specs.depot_path.Digits.{number_of}
@@ -15,7 +15,7 @@ use Rattle.depot_rows.specs.depot_model.Fixes.{is_on}
 use Rattle.depot_rows.specs.depot_model.Latest.{keys_of, spec, spec_name}
 use Rattle.depot_rows.specs.depot_model.Rules.{IsSound, is_job_name, value_in}
 use Rattle.depot_rows.specs.depot_model.Values.{value_of}
-use Rattle.depot_rows.proofs.Keys.{left-true, right-true, same-is}
+use Rattle.depot_rows.proofs.Keys.{same-is}
 use Rattle.depot_facts.proofs.Found.{saved_fix, saved_job, spec_value}
 use Rattle.depot_facts.proofs.Fixes.{fix_tells}
 use Rattle.named_forms.proofs.Texts.{begins_front}
@@ -46,9 +46,9 @@ module _ (d : List Deed) (sound : IsSound d) (digits : Option (List ℕ)) (job :
   asked_begins : (name : List ℕ) (form : FormValue) → spec d FixForm name ≡ Some form → is_asked digits (Some job) form ≡ true → begins_with name (job ++ 0x20 ∷ []) ≡ true
   asked_begins name form e h =
       let value : (field : List ℕ) → value_in FixShape field (printed_form form) ≡ value_of form field = spec_value d sound FixForm name form e in
-      let both = right-true (is_on form) (option_map_or (same (value_of form (codes "Change"))) digits true && same (value_of form (codes "Job")) job) h in
+      let both = (and_parts (is_on form) (option_map_or (same (value_of form (codes "Change"))) digits true && same (value_of form (codes "Job")) job) h).1 in
       let of : value_of form (codes "Job") ≡ job =
-      same-is (value_of form (codes "Job")) job (right-true (option_map_or (same (value_of form (codes "Change"))) digits true) (same (value_of form (codes "Job")) job) both) in
+      same-is (value_of form (codes "Job")) job (and_parts (option_map_or (same (value_of form (codes "Change"))) digits true) (same (value_of form (codes "Job")) job) both).1 in
       let fix = saved_fix d sound name form e in
       let named : name ≡ job ++ 0x20 ∷ value_of form (codes "Change") =
       fix.named ∙ (λ i. value (codes "Job") i ++ 0x20 ∷ value (codes "Change") i) ∙ (λ i. of i ++ 0x20 ∷ value_of form (codes "Change")) in
@@ -65,9 +65,9 @@ behind job digits e = ap (λ (n : ℕ). drop (suc n) (job ++ 0x20 ∷ digits)) (
 
 nine : (name : List ℕ) → is_job_name name ≡ true → length name ≡ 9
 nine name is =
-    let front = left-true (begins_with name (codes "job") && (length name == 9) && list_all is_digit (drop 3 name)) (nat_le 1 (number_of (drop 3 name))) is in
-    let long = left-true (begins_with name (codes "job") && (length name == 9)) (list_all is_digit (drop 3 name)) front in
-    (Decides-eqb (length name) 9).0 (right-true (begins_with name (codes "job")) (length name == 9) long)
+    let front = (and_parts (begins_with name (codes "job") && (length name == 9) && list_all is_digit (drop 3 name)) (nat_le 1 (number_of (drop 3 name))) is).0 in
+    let long = (and_parts (begins_with name (codes "job") && (length name == 9)) (list_all is_digit (drop 3 name)) front).0 in
+    (Decides-eqb (length name) 9).0 (and_parts (begins_with name (codes "job")) (length name == 9) long).1
 
 module _ (d : List Deed) (sound : IsSound d) (digits : List ℕ) (job : Option (List ℕ)) where
   saved_job_name : (name : List ℕ) → IsSome (model.job d name) → is_job_name name ≡ true
@@ -80,8 +80,8 @@ module _ (d : List Deed) (sound : IsSound d) (digits : List ℕ) (job : Option (
   asked_ends : (name : List ℕ) (form : FormValue) → spec d FixForm name ≡ Some form → is_asked (Some digits) job form ≡ true → same (drop 10 name) digits ≡ true
   asked_ends name form e h =
       let tells = fix_tells d sound name form e in
-      let both = right-true (is_on form) (same (value_of form (codes "Change")) digits && option_map_or (same (value_of form (codes "Job"))) job true) h in
-      let of : same (value_of form (codes "Change")) digits ≡ true = left-true (same (value_of form (codes "Change")) digits) (option_map_or (same (value_of form (codes "Job"))) job true) both in
+      let both = (and_parts (is_on form) (same (value_of form (codes "Change")) digits && option_map_or (same (value_of form (codes "Job"))) job true) h).1 in
+      let of : same (value_of form (codes "Change")) digits ≡ true = (and_parts (same (value_of form (codes "Change")) digits) (option_map_or (same (value_of form (codes "Job"))) job true) both).0 in
       let long = nine (value_of form (codes "Job")) (saved_job_name (value_of form (codes "Job")) tells.job_there) in
       ap (λ (text : List ℕ). same (drop 10 text) digits) tells.named ∙ ap (λ (text : List ℕ). same text digits) (behind (value_of form (codes "Job")) (value_of form (codes "Change")) long) ∙ of
 

@@ -5,6 +5,7 @@ use Rattle.std.specs.Fmt.{digits, digits_onto, digit_glyph}
 use Rattle.std.specs.List.{list_all}
 use Rattle.std.specs.Option.{option_or}
 use Rattle.std.proofs.lemmas.Option.{same_Some}
+use Rattle.std.proofs.lemmas.Bool.{and_parts}
 use Rattle.depot_model.specs.depot_path.Bytes.{same}
 use Rattle.depot_model.specs.depot_path.Digits.{number_of}
 use Rattle.depot_model.specs.spec_form.Form.{FormValue, with_field}
@@ -26,7 +27,7 @@ use Rattle.depot_model.specs.declared.refusal.Limit.TheVariants.{Fixes}
 use Rattle.depot_model.specs.declared.refusal.Refusal.TheVariants.{NoSuchChange, OverLimit}
 use Rattle.depot_model.specs.declared.request.Caller.{Caller}
 use Rattle.depot_model.specs.declared.request.Request.{Request}
-use Rattle.depot_rows.proofs.Keys.{same-is, left-true, right-true}
+use Rattle.depot_rows.proofs.Keys.{same-is}
 use Rattle.depot_facts.proofs.Steps.{AllOf, joined, passed}
 use Rattle.depot_facts.proofs.Fields.{value_back, other_value, own_value, has_valued}
 use Rattle.depot_facts.proofs.Decimals.{numeral_is}
@@ -187,8 +188,8 @@ module _ (d : List Deed) where
     closings_named [] all = tt
     closings_named (form ∷ forms) all =
         joined Named (closing d n m form) (flat_map (closing d n m) forms)
-        (closing_named form (left-true (is_of_change n form) (list_all (is_of_change n) forms) all))
-        (closings_named forms (right-true (is_of_change n form) (list_all (is_of_change n) forms) all))
+        (closing_named form (and_parts (is_of_change n form) (list_all (is_of_change n) forms) all).0)
+        (closings_named forms (and_parts (is_of_change n form) (list_all (is_of_change n) forms) all).1)
 
   got_named : (openings : List Opening) → AllOf Named (flat_map (got_and_shut d) openings)
   got_named [] = tt

@@ -4,6 +4,7 @@ use Rattle.std.specs.Prelude.{◌&&◌, ◌||◌, ◌==◌, not, codes, decimal,
 use Rattle.std.specs.List.{list_any}
 use Rattle.std.specs.Option.{option_or}
 use Rattle.std.proofs.lemmas.Option.{same_Some}
+use Rattle.std.proofs.lemmas.Bool.{and_parts}
 use Rattle.depot_model.specs.depot_path.Bytes.{same}
 use Rattle.depot_model.specs.spec_form.Form.{FormValue, with_field}
 use Rattle.depot_model.specs.Commands.{step}
@@ -17,7 +18,7 @@ use Rattle.depot_model.specs.declared.command.Command.{Command}
 use Rattle.depot_model.specs.declared.command.Command.TheVariants.{SubmitChange, SubmitDefault}
 use Rattle.depot_model.specs.declared.request.Request.{Request}
 use Rattle.depot_rows.proofs.Entries.{In}
-use Rattle.depot_rows.proofs.Keys.{same-is, same-self, left-true, right-true}
+use Rattle.depot_rows.proofs.Keys.{same-is, same-self}
 use Rattle.depot_runs.specs.Folds.{landed_by}
 use Rattle.depot_facts.proofs.Decimals.{decimal_digits, parts_is}
 use Rattle.depot_facts.proofs.Steps.{after_joined}
@@ -40,8 +41,8 @@ key_same x name a k = either (same (fix_name x a) (fix_name name k)) (same x nam
 
     down : (same x name && is_written k a) ≡ true → same (fix_name x a) (fix_name name k) ≡ true
     down e =
-        let one : x ≡ name = same-is x name (left-true (same x name) (is_written k a) e) in
-        let two : decimal k ≡ decimal a = same-is (decimal k) (decimal a) (right-true (same x name) (is_written k a) e) in
+        let one : x ≡ name = same-is x name (and_parts (same x name) (is_written k a) e).0 in
+        let two : decimal k ≡ decimal a = same-is (decimal k) (decimal a) (and_parts (same x name) (is_written k a) e).1 in
         let back : name ≡ x = sym one in
         (λ i. same (fix_name x a) (back i ++ 0x20 ∷ two i)) ∙ same-self (fix_name x a)
 

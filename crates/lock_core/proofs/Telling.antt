@@ -5,6 +5,7 @@ use Rattle.std.specs.Ordering.{is_eq}
 use Rattle.std.proofs.lemmas.Bool.Decides.{Decides-eqb}
 use Rattle.std.specs.declared.cmp.Ordering.{Ordering}
 use Rattle.std.specs.declared.cmp.Ordering.TheVariants.{Less, Equal, Greater}
+use Rattle.std.proofs.lemmas.Bool.{or_parts}
 use Rattle.depot_rows.specs.db_records.Key.{key_cmp, key_table}
 use Rattle.depot_rows.specs.db_records.Record.{key_of, table_of}
 use Rattle.depot_rows.specs.db_records.Table.{table_number}
@@ -24,7 +25,7 @@ use Rattle.depot_rows.specs.Standing.{Stand, row_in}
 use Rattle.row_changes.specs.Differences.{AreDifferences, LeadsTo, change_at, changed_key}
 use Rattle.lock_machine.specs.Runs.{AreChanged}
 use Rattle.lock_core.specs.Works.{is_changed}
-use Rattle.lock_machine.proofs.Places.{some_is, either_true, neither, true_or_false}
+use Rattle.lock_machine.proofs.Places.{some_is, either_true, true_or_false}
 use Rattle.lock_machine.proofs.Orderly.{same_lock}
 
 same : (a b : ℕ) → eqb a b ≡ true → a ≡ b
@@ -50,7 +51,7 @@ turned a b apart = elim (true_or_false (eqb b a)) [
 pub stays_in : (rows : AllRows) (changes : List Change) (table : TableId) → is_changed changes table ≡ false → changed_by rows changes table ≡ rows table
 stays_in rows [] table none = refl
 stays_in rows (change ∷ changes) table none =
-    let parts = neither (eqb (table_number (table_of change.row)) (table_number table)) (is_changed changes table) none in
+    let parts = or_parts (eqb (table_number (table_of change.row)) (table_number table)) (is_changed changes table) none in
     stays_in (changed_in rows change) changes table parts.1
     ∙ ap (λ b. cond b (changed_once (rows table) change) (rows table)) (turned (table_number (table_of change.row)) (table_number table) parts.0)
 
@@ -82,7 +83,7 @@ itself_at key = ap is_eq ((keys_equal key key).1 refl)
 none_at : (changes : List Change) (key : Key) → is_changed changes (key_table key) ≡ false → change_at changes key ≡ None
 none_at [] key none = refl
 none_at (change ∷ changes) key none =
-    let parts = neither (eqb (table_number (table_of change.row)) (table_number (key_table key))) (is_changed changes (key_table key)) none in
+    let parts = or_parts (eqb (table_number (table_of change.row)) (table_number (key_table key))) (is_changed changes (key_table key)) none in
     go (is_at key (changed_key change)) refl parts.0 (none_at changes key parts.1)
   where
     go : (b : Bool) → is_at key (changed_key change) ≡ b → eqb (table_number (table_of change.row)) (table_number (key_table key)) ≡ false → change_at changes key ≡ None

@@ -5,6 +5,7 @@ use Rattle.std.specs.List.{list_any}
 use Rattle.std.proofs.lemmas.Bool.Decides.{Decides-eqb}
 use Rattle.std.proofs.lemmas.List.{drop-append-le, drop_all, map-append}
 use Rattle.std.proofs.lemmas.List.Folds.{list_any-append}
+use Rattle.std.proofs.lemmas.Bool.{or_left, or_right, and_parts, or_parts}
 use Rattle.depot_model.specs.db_records.declared.table.TableId.TheVariants as ids
 use Rattle.depot_model.specs.declared.lock.LockId.{LockId}
 use Rattle.depot_model.specs.declared.lock.LockId.TheVariants.{Table, Archive, Journal}
@@ -14,7 +15,7 @@ use Rattle.lock_machine.specs.declared.stage.Stage.{Stage}
 use Rattle.lock_machine.specs.declared.stage.Stage.TheVariants.{Gathering, Judged, Committed}
 use Rattle.depot_model.specs.Tables.{Need, set_locks}
 use Rattle.lock_machine.specs.Orderly.{is_written, AllLast, IsAtHand, AtHand, IsOrderly, ChangesWritten, MayFinish}
-use Rattle.lock_machine.proofs.Places.{set_here, set_there, one_or_apart, some_is, either_true, both_true, neither, true_or_false, not_true, none_found}
+use Rattle.lock_machine.proofs.Places.{set_here, set_there, one_or_apart, some_is, either_true, true_or_false, not_true, none_found}
 
 -- ---- tests on locks
 
@@ -42,13 +43,6 @@ same_lock a b e = sym (at_number a) ∙ (ap lock_at ((Decides-eqb (lock_number a
 
 pub itself : (a : LockId) → is_lock a a ≡ true
 itself a = (Decides-eqb (lock_number a) (lock_number a)).1 refl
-
-pub left_of : (a b : Bool) → a ≡ true → (a || b) ≡ true
-left_of a b e = rw e refl
-
-pub right_of : (a b : Bool) → b ≡ true → (a || b) ≡ true
-right_of true b e = refl
-right_of false b e = e
 
 -- ---- what lasts
 
@@ -81,9 +75,9 @@ module _ (order more : List Commit) where
       within = longer s.places all.0.within;
       untouched = λ owned.
           let here : owns_seen second s.need.lock s ≡ true = ap (λ b. b && is_lock s.need.lock s.need.lock) owned ∙ itself s.need.lock in
-          touched_more s all.0.within (none s.need.lock (left_of (owns_seen second s.need.lock s) (list_any (owns_seen second s.need.lock) seen) here)) (all.0.untouched owned);
+          touched_more s all.0.within (none s.need.lock (or_left (owns_seen second s.need.lock s) (list_any (owns_seen second s.need.lock) seen) here)) (all.0.untouched owned);
     },
-    owned_last second seen (λ lock has. none lock (right_of (owns_seen second lock s) (list_any (owns_seen second lock) seen) has)) all.1,
+    owned_last second seen (λ lock has. none lock (or_right (owns_seen second lock s) (list_any (owns_seen second lock) seen) has)) all.1,
   )
 
   -- one that has committed needs nothing to last
@@ -111,7 +105,7 @@ all_last : (order : List Commit) (second : Bool) (seen : List Seen) → list_any
     → AllLast order Judged second seen
 all_last order second [] fresh all = tt
 all_last order second (s ∷ seen) fresh all =
-    let parts = neither (is_stale order second s) (list_any (is_stale order second) seen) fresh in (
+    let parts = or_parts (is_stale order second s) (list_any (is_stale order second) seen) fresh in (
       record {
         within = all.0.within;
         untouched = λ must. go (is_owned second s) refl (is_touched order s) refl parts.0 all.0.untouched;
@@ -160,7 +154,7 @@ module _ (needs : Request → List Need) (parties : List Party) (order : List Co
       pick (inl before) = inl before
       pick (inr new) =
           let parts : owns_seen second lock (record { need = need; places = length order }) ≡ true = elim (either_true (owns_seen second lock (record { need = need; places = length order })) false new) [ inl here ↦ here | inr never ↦ absurd (cc) ] in
-          let taken = both_true (is_owned second (record { need = need; places = length order })) (is_lock need.lock lock) parts in
+          let taken = and_parts (is_owned second (record { need = need; places = length order })) (is_lock need.lock lock) parts in
           inr (let P : LockId → Type 0 = λ l. is_free parties l ≡ true in subst P (same_lock need.lock lock taken.1) may)
   gained_at request Judged second seen rest may has = inl has
   gained_at request Committed second seen rest may has = absurd cc
@@ -227,10 +221,10 @@ module _ (needs : Request → List Need) where
   written_owned second lock (s ∷ seen) e =
       elim (either_true (s.need.writes && is_lock s.need.lock lock) (is_written (map (λ (s : Seen). s.need) seen) lock) e) [
         | inl here ↦
-            let parts = both_true s.need.writes (is_lock s.need.lock lock) here in
-            let owned : is_owned second s ≡ true = right_of second s.need.writes parts.0 in
-            left_of (owns_seen second lock s) (list_any (owns_seen second lock) seen) (ap (λ b. b && is_lock s.need.lock lock) owned ∙ parts.1)
-        | inr later ↦ right_of (owns_seen second lock s) (list_any (owns_seen second lock) seen) (written_owned second lock seen later)
+            let parts = and_parts s.need.writes (is_lock s.need.lock lock) here in
+            let owned : is_owned second s ≡ true = or_right second s.need.writes parts.0 in
+            or_left (owns_seen second lock s) (list_any (owns_seen second lock) seen) (ap (λ b. b && is_lock s.need.lock lock) owned ∙ parts.1)
+        | inr later ↦ or_right (owns_seen second lock s) (list_any (owns_seen second lock) seen) (written_owned second lock seen later)
       ]
 
   -- who judged owns all that it writes
@@ -238,11 +232,11 @@ module _ (needs : Request → List Need) where
   judged_writes order lock w stage h written =
       let judged_so : has_judged w.stage ≡ true = ap has_judged stage in
       let all : map (λ (s : Seen). s.need) w.seen ≡ needs w.request = sym (append-nil (map (λ (s : Seen). s.need) w.seen)) ∙ (ap (λ (r : List Need). map (λ (s : Seen). s.need) w.seen ++ r) (sym (h.whole judged_so)) ∙ h.set) in
-      right_of (has_judged w.stage && is_lock lock Journal) (list_any (owns_seen w.second lock) w.seen)
+      or_right (has_judged w.stage && is_lock lock Journal) (list_any (owns_seen w.second lock) w.seen)
       (written_owned w.second lock w.seen (ap (λ (ns : List Need). is_written ns lock) all ∙ written))
 
   owns_journal : (w : Work) → w.stage ≡ Judged → owns_at Journal w ≡ true
-  owns_journal w stage = left_of (has_judged w.stage && is_lock Journal Journal) (list_any (owns_seen w.second Journal) w.seen) (ap (λ st. has_judged st && true) stage)
+  owns_journal w stage = or_left (has_judged w.stage && is_lock Journal Journal) (list_any (owns_seen w.second Journal) w.seen) (ap (λ st. has_judged st && true) stage)
 
   -- no lock of one is a lock of the other
   abbrev pub AreApart : Work → Work → Type 0

@@ -2,6 +2,7 @@
 use Rattle.std.proofs.Common.{◌≡◌, ◌≢◌, ◌⊎◌, ℕ, zero, suc, Bool, true, false, not, List, [], ◌∷◌, set, Some, refl, sym, ap, ◌∙◌, inl, inr}
 use Rattle.std.specs.Prelude.{slice_get, ◌&&◌, ◌||◌}
 use Rattle.std.specs.List.{list_any}
+use Rattle.std.proofs.lemmas.Bool.{or_parts}
 
 -- what stands at a place that was set, and at another
 pub set_here : {A : Type 0} (xs : List A) (i : ℕ) (x y : A) → slice_get xs i ≡ Some x → slice_get (set xs i y) i ≡ Some y
@@ -32,14 +33,6 @@ pub either_true : (a b : Bool) → (a || b) ≡ true → (a ≡ true) ⊎ (b ≡
 either_true true b e = inl refl
 either_true false b e = inr e
 
-pub both_true : (a b : Bool) → (a && b) ≡ true → (a ≡ true) × (b ≡ true)
-both_true true b e = (refl, e)
-both_true false b e = absurd cc
-
-pub neither : (a b : Bool) → (a || b) ≡ false → (a ≡ false) × (b ≡ false)
-neither true b e = absurd cc
-neither false b e = (refl, e)
-
 pub true_or_false : (b : Bool) → (b ≡ true) ⊎ (b ≡ false)
 true_or_false true = inl refl
 true_or_false false = inr refl
@@ -59,5 +52,5 @@ found f (x ∷ xs) e =
 
 pub none_found : {A : Type 0} (f : A → Bool) (xs : List A) → list_any f xs ≡ false → (i : ℕ) (x : A) → slice_get xs i ≡ Some x → f x ≡ false
 none_found f [] e i x at = absurd cc
-none_found f (y ∷ xs) e zero x at = let here = neither (f y) (list_any f xs) e in ap f (sym (some_is at)) ∙ here.0
-none_found f (y ∷ xs) e (suc i) x at = none_found f xs (neither (f y) (list_any f xs) e).1 i x at
+none_found f (y ∷ xs) e zero x at = let here = or_parts (f y) (list_any f xs) e in ap f (sym (some_is at)) ∙ here.0
+none_found f (y ∷ xs) e (suc i) x at = none_found f xs (or_parts (f y) (list_any f xs) e).1 i x at

@@ -2,6 +2,7 @@
 use Rattle.std.proofs.Common.{◌≡◌, ℕ, zero, suc, ◌+◌, ◌<◌, ◌≤◌, Bool, true, not, List, [], ◌∷◌, ◌++◌, map, Option, Some, None, refl, sym, ap, subst, ◌∙◌, inl, inr, arith}
 use Rattle.std.specs.Prelude.{slice_get, ◌&&◌, ◌||◌}
 use Rattle.std.specs.List.{list_any}
+use Rattle.std.proofs.lemmas.Bool.{and_parts}
 use Rattle.depot_model.specs.Tables.{Need}
 use Rattle.depot_model.specs.declared.lock.LockId.{LockId}
 use Rattle.depot_model.specs.declared.lock.LockId.TheVariants.{Journal}
@@ -10,7 +11,7 @@ use Rattle.lock_machine.specs.Machine.{lock_number, is_lock, Seen, Work, Party, 
 use Rattle.lock_machine.specs.declared.stage.Stage.{Stage}
 use Rattle.lock_machine.specs.declared.stage.Stage.TheVariants.{Gathering, Judged, Committed}
 use Rattle.lock_machine.specs.Orderly.{Rises, IsAtHand, AtHand, IsOrderly}
-use Rattle.lock_machine.proofs.Places.{either_true, both_true, true_or_false, found}
+use Rattle.lock_machine.proofs.Places.{either_true, true_or_false, found}
 use Rattle.lock_machine.proofs.Orderly.{same_lock}
 
 -- ---- locks that rise
@@ -42,7 +43,7 @@ owned_below second lock n [] rest rises has = absurd cc
 owned_below second lock n (s ∷ seen) rest rises has =
     elim (either_true (owns_seen second lock s) (list_any (owns_seen second lock) seen) has) [
       | inl here ↦
-          let is = ap lock_number (same_lock s.need.lock lock (both_true (is_owned second s) (is_lock s.need.lock lock) here).1) in
+          let is = ap lock_number (same_lock s.need.lock lock (and_parts (is_owned second s) (is_lock s.need.lock lock) here).1) in
           let more = rest_rises (suc (lock_number s.need.lock)) (map (λ (s : Seen). s.need) seen) rest rises.1 in
           let up = more.1 in
           let low = least more.0 rest more.2 in

@@ -3,6 +3,7 @@ use Rattle.std.proofs.Common.{◌≡◌, ℕ, zero, suc, Bool, true, false, cond
 use Rattle.std.specs.Prelude.{slice_get}
 use Rattle.std.specs.List.{list_any}
 use Rattle.std.proofs.lemmas.List.{map-append}
+use Rattle.std.proofs.lemmas.Bool.{or_parts}
 use Rattle.depot_model.specs.db_records.Key.{key_table}
 use Rattle.depot_model.specs.db_records.declared.key.Key.{Key}
 use Rattle.depot_model.specs.db_records.declared.table.TableId.{TableId}
@@ -21,7 +22,7 @@ use Rattle.lock_machine.specs.declared.stage.Stage.{Stage}
 use Rattle.lock_machine.specs.declared.stage.Stage.TheVariants.{Gathering, Judged, Committed}
 use Rattle.lock_machine.specs.Orderly.{is_written, AllLast, IsAtHand, AtHand, ChangesWritten, MayFinish}
 use Rattle.lock_machine.specs.Runs.{depot_after, IsTold, Tells, TellsBy, TellsAt, Event, events, AllTell, AllServedIn, idle, beginning, AreSights, SawAll, AllServed, IsServedBy, AreServed, IsRun}
-use Rattle.lock_machine.proofs.Places.{some_is, neither, true_or_false}
+use Rattle.lock_machine.proofs.Places.{some_is, true_or_false}
 use Rattle.lock_machine.proofs.Orderly.{acts_orderly, changes_lock}
 use Rattle.lock_machine.proofs.Written.{writes_alone}
 use Rattle.sound_requests.proofs.All.{asked_sound}
@@ -45,7 +46,7 @@ stays : (d : List Deed) (order : List Commit) (lock : LockId) → IsTold d order
     → record_of d key ≡ record_of (depot_after d order) key
 stays d [] lock told none key at = refl
 stays d (c ∷ order) lock told none key at =
-    let parts = neither (guards c.changed lock) (list_any (changes_lock lock) order) none in
+    let parts = or_parts (guards c.changed lock) (list_any (changes_lock lock) order) none in
     told.0.same key (ap (guards c.changed) at ∙ parts.0) ∙ stays (after d (done_at step d c.place)) order lock told.1 parts.1 key at
 
 stays_from : (d : List Deed) (order : List Commit) (n : ℕ) (lock : LockId) → IsTold d order → list_any (changes_lock lock) (drop n order) ≡ false → (key : Key) → Table (key_table key) ≡ lock

@@ -2,6 +2,7 @@
 use Rattle.std.proofs.Common.{◌≡◌, Bool, true, false, cond, List, [], ◌∷◌, map, Result, Ok, Err, refl, sym, ap, subst, ◌∙◌, inl, inr}
 use Rattle.std.specs.Prelude.{filter, ◌&&◌, ◌||◌}
 use Rattle.std.specs.List.{list_any}
+use Rattle.std.proofs.lemmas.Bool.{or_left, or_right}
 use Rattle.depot_model.specs.db_records.Key.{key_table}
 use Rattle.depot_model.specs.db_records.declared.key.Key.{Key}
 use Rattle.depot_model.specs.db_records.declared.table.TableId.{TableId}
@@ -22,7 +23,7 @@ use Rattle.step_tables.proofs.Whole.{step_stays}
 use Rattle.lock_machine.specs.Machine.{is_lock}
 use Rattle.lock_machine.specs.Orderly.{is_written}
 use Rattle.lock_machine.proofs.Places.{true_or_false}
-use Rattle.lock_machine.proofs.Orderly.{same_lock, left_of, right_of}
+use Rattle.lock_machine.proofs.Orderly.{same_lock}
 
 -- ---- what a set writes
 
@@ -31,13 +32,13 @@ module _ (command : Command) where
   needs_among locks = map (need_for command) (filter (takes command) locks)
 
   taken : (lock : LockId) → writes_behind command lock ≡ true → takes command lock ≡ true
-  taken (Table table) written = right_of (reads command table) (writes command table) written
-  taken Archive written = right_of (reads_archive command) (writes_archive command) written
+  taken (Table table) written = or_right (reads command table) (writes command table) written
+  taken Archive written = or_right (reads_archive command) (writes_archive command) written
   taken Journal written = absurd cc
 
   later_kept : (lock other : LockId) (locks : List LockId) (kept : Bool) → is_written (needs_among locks) lock ≡ true
       → is_written (map (need_for command) (cond kept (other ∷ filter (takes command) locks) (filter (takes command) locks))) lock ≡ true
-  later_kept lock other locks true later = right_of (writes_behind command other && is_lock other lock) (is_written (needs_among locks) lock) later
+  later_kept lock other locks true later = or_right (writes_behind command other && is_lock other lock) (is_written (needs_among locks) lock) later
   later_kept lock other locks false later = later
 
   -- what the command writes is written by its set
@@ -50,7 +51,7 @@ module _ (command : Command) where
       go true kept is keeps more =
           let P : Bool → Type 0 = λ b. is_written (map (need_for command) (cond b (other ∷ filter (takes command) locks) (filter (takes command) locks))) lock ≡ true in
           let own : writes_behind command other ≡ true = ap (writes_behind command) (same_lock other lock is) ∙ written in
-          subst P (sym (taken other own)) (left_of (writes_behind command other && is_lock other lock) (is_written (needs_among locks) lock) (λ i. own i && is i))
+          subst P (sym (taken other own)) (or_left (writes_behind command other && is_lock other lock) (is_written (needs_among locks) lock) (λ i. own i && is i))
       go false kept is keeps more =
           let P : Bool → Type 0 = λ b. is_written (map (need_for command) (cond b (other ∷ filter (takes command) locks) (filter (takes command) locks))) lock ≡ true in
           let later = more (let rest : (false || list_any (λ l. is_lock l lock) locks) ≡ true = (ap (λ b. b || list_any (λ l. is_lock l lock) locks) (sym is) ∙ has) in rest) in

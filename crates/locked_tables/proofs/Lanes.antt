@@ -3,7 +3,7 @@ use Rattle.std.proofs.Common.{◌≡◌, ◌≢◌, ◌≤◌, ◌<◌, ◌==◌
 use Rattle.std.specs.List.{AllByRecursion}
 use mathlib.Core.Logic.{dite}
 use native.Mathlib.Decide.{ℕ_discrete}
-use Rattle.std.proofs.lemmas.Bool.{eq-eqb, ne_eqb, true≢false}
+use Rattle.std.proofs.lemmas.Bool.{eq-eqb, ne_eqb, true≢false, or_parts, or_left, or_right}
 use Rattle.std.proofs.lemmas.Nat.Bits.{bit_at-zero}
 use Rattle.depot_model.specs.db_records.Table.{table_number}
 use Rattle.depot_model.specs.db_records.declared.table.TableId.{TableId}
@@ -15,13 +15,6 @@ use Rattle.locked_tables.specs.Placing.{AreOfTables, lanes_held}
 use Rattle.locked_tables.specs.Taken.{archive_lane, journal_lane, party_lane}
 use Rattle.locked_tables.specs.declared.held_table.HeldTable.{HeldTable}
 
-pub or_first : (a b : Bool) → a ≡ true → (a || b) ≡ true
-or_first a b e = ap (λ (c : Bool). c || b) e
-
-pub or_second : (a b : Bool) → b ≡ true → (a || b) ≡ true
-or_second true b e = refl
-or_second false b e = e
-
 pub or_no_first : (a b : Bool) → a ≡ false → (a || b) ≡ b
 or_no_first a b e = ap (λ (c : Bool). c || b) e
 
@@ -29,15 +22,11 @@ pub or_no_second : (a b : Bool) → b ≡ false → (a || b) ≡ a
 or_no_second true b e = refl
 or_no_second false b e = e
 
-neither_second : (a b : Bool) → (a || b) ≡ false → b ≡ false
-neither_second true b e = absurd (cc e)
-neither_second false b e = e
-
 module _ (lane : ℕ) where
   -- what isn't among the lanes isn't among the last of them
   pub not_last : (front rest : List ℕ) → is_among lane (front ++ rest) ≡ false → is_among lane rest ≡ false
   not_last [] rest e = e
-  not_last (first ∷ front) rest e = not_last front rest (neither_second (lane == first) (is_among lane (front ++ rest)) e)
+  not_last (first ∷ front) rest e = not_last front rest (or_parts (lane == first) (is_among lane (front ++ rest)) e).1
 
 -- no bit of zero is set
 pub no_lane : (lane : ℕ) → has_lane 0 lane ≡ false
@@ -58,11 +47,11 @@ module _ (lanes more n lane : ℕ) (is : n ≡ lane) (one : has_lane more n ≡ 
   -- the bits of lanes that are checked, and of one more
   pub among_more : (checked : List ℕ) → AreAmong lanes checked → AreAmong more (lane ∷ checked)
   among_more checked all i h = dite (ℕ_discrete i lane)
-      (λ e. or_first (i == lane) (is_among i checked) (eq-eqb i lane e))
-      (λ ne. or_second (i == lane) (is_among i checked) (all i (sym (rest_same i ne) ∙ h)))
+      (λ e. or_left (i == lane) (is_among i checked) (eq-eqb i lane e))
+      (λ ne. or_right (i == lane) (is_among i checked) (all i (sym (rest_same i ne) ∙ h)))
 
   or_same : (i : ℕ) (rest : List ℕ) (b : Bool) → (i == lane) ≡ b → (has_lane more i || is_among i rest) ≡ (has_lane lanes i || ((i == lane) || is_among i rest))
-  or_same i rest true e = let same : i ≡ lane = grind (arith, e) in or_first (has_lane more i) (is_among i rest) (ap (has_lane more) same ∙ this) ∙ sym (or_second (has_lane lanes i) ((i == lane) || is_among i rest) (or_first (i == lane) (is_among i rest) e))
+  or_same i rest true e = let same : i ≡ lane = grind (arith, e) in or_left (has_lane more i) (is_among i rest) (ap (has_lane more) same ∙ this) ∙ sym (or_right (has_lane lanes i) ((i == lane) || is_among i rest) (or_left (i == lane) (is_among i rest) e))
   or_same i rest false e = let ne : i ≢ lane = λ same. absurd (cc (e, eq-eqb i lane same)) in
       ap (λ (b : Bool). b || is_among i rest) (rest_same i ne) ∙ sym (ap (λ (b : Bool). has_lane lanes i || (b || is_among i rest)) e)
 
@@ -73,7 +62,7 @@ module _ (lanes more n lane : ℕ) (is : n ≡ lane) (one : has_lane more n ≡ 
 
     -- this lane is one of them
     pub has_this : has_lane result lane ≡ true
-    has_this = all lane ∙ or_first (has_lane more lane) (is_among lane rest) this
+    has_this = all lane ∙ or_left (has_lane more lane) (is_among lane rest) this
 
 -- ---- lanes of tables, of the archive and of parties
 

@@ -2,6 +2,7 @@
 use Rattle.std.proofs.Common.{◌≡◌, ℕ, Bool, true, false, List, [], ◌∷◌, refl, sym, ap}
 use Rattle.std.specs.Prelude.{filter, is_some}
 use Rattle.std.specs.List.{list_all}
+use Rattle.std.proofs.lemmas.Bool.{and_parts}
 use Rattle.depot_rows.specs.depot_path.declared.file_spec.FileSpec.{FileSpec}
 use Rattle.depot_rows.specs.depot_path.declared.revision.Wanted.{Wanted}
 use Rattle.depot_rows.specs.depot_path.declared.revision.Wanted.TheVariants.{Head, One, Range}
@@ -12,7 +13,6 @@ use Rattle.depot_rows.specs.depot_model.Deeds.{Deed}
 use Rattle.depot_rows.specs.depot_model.Step.{Step as ModelStep}
 use Rattle.depot_rows.specs.depot_model.Steps.Listing.{chosen_revision, listed}
 use Rattle.depot_rows.specs.depot_model.WellFormed.{asks_head}
-use Rattle.depot_rows.proofs.Keys.{left-true, right-true}
 use Rattle.file_steps.proofs.Alike.{AllAlike, over_alike}
 use Rattle.named_files.specs.Sets.{at_head, is_listed}
 use Rattle.named_files.proofs.Selection.{both_tests}
@@ -34,8 +34,8 @@ module _ (d : List Deed) (caller : Caller) (files : List (List ℕ)) where
   all_heads : (arguments : List FileArgument) → list_all asks_head arguments ≡ true → AllAlike at_heads (named false d caller files) arguments
   all_heads [] asks = tt
   all_heads (a ∷ arguments) asks = (
-    ap (λ (spec : FileSpec). filter (names false d caller spec) files) (at_own_head a (left-true (asks_head a) (list_all asks_head arguments) asks)),
-    all_heads arguments (right-true (asks_head a) (list_all asks_head arguments) asks),
+    ap (λ (spec : FileSpec). filter (names false d caller spec) files) (at_own_head a (and_parts (asks_head a) (list_all asks_head arguments) asks).0),
+    all_heads arguments (and_parts (asks_head a) (list_all asks_head arguments) asks).1,
   )
 
   -- the loop over the files at the heads is the model's

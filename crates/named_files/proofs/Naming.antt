@@ -2,7 +2,7 @@
 use Rattle.std.proofs.Common.{◌≡◌, ℕ, Bool, true, false, List, Option, Some, None, refl, ◌∙◌}
 use Rattle.std.specs.Prelude.{◌&&◌, if◌then◌else◌}
 use Rattle.std.specs.List.{list_any}
-use Rattle.std.proofs.lemmas.Bool.{false≢true}
+use Rattle.std.proofs.lemmas.Bool.{false≢true, and_parts}
 use Rattle.depot_rows.specs.depot_path.Fit.{fits}
 use Rattle.depot_rows.specs.depot_path.declared.file_spec.FileSpec.{FileSpec}
 use Rattle.depot_rows.specs.view_map.Mapping.{path_in, at_path, after_deciding, mapped}
@@ -15,7 +15,6 @@ use Rattle.depot_rows.specs.depot_model.Arguments.{fits_at, in_client_syntax, na
 use Rattle.depot_rows.specs.depot_model.Asking.{may_list, view}
 use Rattle.depot_rows.specs.depot_model.Choice.{chosen, is_live_choice, shown}
 use Rattle.depot_rows.specs.depot_model.Deeds.{Deed}
-use Rattle.depot_rows.proofs.Keys.{right-true}
 use Rattle.revision_reads.specs.Shown.{shown_in}
 use Rattle.named_files.specs.Asked.{IsAsker, is_named, is_placed, is_shown}
 use Rattle.named_files.specs.declared.asker.Asker.{Asker}
@@ -35,7 +34,7 @@ module _ (d : List Deed) (caller : Caller) (asker : Asker) (is : IsAsker d calle
       λ i. may (is.protects i) (is.who i) path 1 && (if in_client_syntax (is.client i) spec.pattern then fits_at spec.pattern (path_in (is.view i) path) else fits spec.pattern path)
 
   pub placed_if_named : (spec : FileSpec) (path : List ℕ) → names true d caller spec path ≡ true → is_placed asker spec.pattern path ≡ true
-  placed_if_named spec path e = right-true (may asker.protects asker.who path 1) (is_placed asker spec.pattern path) (named_is spec path ∙ e)
+  placed_if_named spec path e = (and_parts (may asker.protects asker.who path 1) (is_placed asker spec.pattern path) (named_is spec path ∙ e)).1
 
   abbrev shown_at : FileSpec → Mapped → Option (List ℕ)
   shown_at spec place = elim place [
@@ -66,7 +65,7 @@ module _ (d : List Deed) (caller : Caller) (asker : Asker) (is : IsAsker d calle
   pub placed_if_shown : (spec : FileSpec) (path : List ℕ) → names false d caller spec path ≡ true → is_placed asker spec.pattern path ≡ true
   placed_if_shown spec path e =
       (λ i. if in_client_syntax (is.client i) spec.pattern then fits_at spec.pattern (path_in (is.view i) path) else fits spec.pattern path)
-      ∙ go (in_client_syntax caller.client spec.pattern) (right-true (may_list d caller path) _ e)
+      ∙ go (in_client_syntax caller.client spec.pattern) (and_parts (may_list d caller path) _ e).1
     where
       go : (b : Bool) → (if b then fits_at spec.pattern (shown d caller spec.wanted path) else fits spec.pattern path) ≡ true
           → (if b then fits_at spec.pattern (path_in (view d caller.client) path) else fits spec.pattern path) ≡ true

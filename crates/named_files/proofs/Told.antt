@@ -3,7 +3,7 @@ use Rattle.std.proofs.Common.{◌≡◌, ℕ, Bool, true, false, List, [], ◌�
 use Rattle.std.specs.Prelude.{◌&&◌, ◌||◌, ◌==◌, not, filter, flat_map, if◌then◌else◌, is_some, option_map, unwrap_or, slice_get}
 use Rattle.std.specs.List.{list_all, list_any}
 use Rattle.std.specs.Option.{option_or, option_flatten}
-use Rattle.std.proofs.lemmas.Bool.{false≢true}
+use Rattle.std.proofs.lemmas.Bool.{false≢true, and_parts, or_right}
 use Rattle.depot_rows.specs.depot_path.Bytes.{same}
 use Rattle.depot_rows.specs.depot_path.Path.{printed, is_path}
 use Rattle.depot_rows.specs.db_records.Key.{key_table}
@@ -21,7 +21,7 @@ use Rattle.depot_rows.specs.depot_model.Revisions.{Revision, revision, revisions
 use Rattle.depot_rows.specs.depot_model.Rules.{IsSound, has_paths, entry_paths, path_or_none}
 use Rattle.depot_rows.specs.depot_model.Sorted.{all_inserted, path_inserted}
 use Rattle.depot_rows.specs.Standing.{unplaced_at}
-use Rattle.depot_rows.proofs.Keys.{left-true, right-true, same-is, same-self}
+use Rattle.depot_rows.proofs.Keys.{same-is, same-self}
 use Rattle.depot_rows.proofs.Spelled.{at_path-here}
 use Rattle.named_files.specs.Listed.{files_of, listed, listing_table}
 use Rattle.named_files.specs.declared.listing.Listing.{Listing}
@@ -30,10 +30,6 @@ use Rattle.named_files.proofs.RowsListed.{own_key, each_row, in_listed, in_order
 use Rattle.depot_rows.proofs.Sorted.{filter_rises}
 use Rattle.depot_rows.specs.Rising.{Rise}
 use Rattle.named_files.proofs.Rising.{in_all_inserted, in_filter, in_inserted, one_list, told_rise}
-
-or_right : (a b : Bool) → b ≡ true → (a || b) ≡ true
-or_right true b e = refl
-or_right false b e = e
 
 -- a file that is told of is among the paths
 absorbed : (a b : Bool) → (b ≡ true → a ≡ true) → (a && b) ≡ b
@@ -147,17 +143,17 @@ got_are_paths client (Got held rev) all = go (same held.client client)
 got_are_paths client _ all = refl
 
 pub open_are_paths : (deed : Deed) → has_paths deed ≡ true → list_all is_path (open_paths deed) ≡ true
-open_are_paths (Open o) all = ap (λ b. b && true) (left-true (is_path o.path) _ all)
+open_are_paths (Open o) all = ap (λ b. b && true) (and_parts (is_path o.path) _ all).0
 open_are_paths _ all = refl
 
 entries_are_paths : (entries : List Entry) → list_all is_path (flat_map entry_paths entries) ≡ true → list_all is_path (map (λ (e : Entry). e.path) entries) ≡ true
 entries_are_paths [] all = refl
 entries_are_paths (e ∷ entries) all =
-    λ i. left-true (is_path e.path) _ all i && entries_are_paths entries (behind (path_or_none e.moved ++ map (λ (c : Credit). c.from) e.credits) (flat_map entry_paths entries) (right-true (is_path e.path) _ all)) i
+    λ i. (and_parts (is_path e.path) _ all).0 i && entries_are_paths entries (behind (path_or_none e.moved ++ map (λ (c : Credit). c.from) e.credits) (flat_map entry_paths entries) (and_parts (is_path e.path) _ all).1) i
   where
     behind : (xs ys : List (List ℕ)) → list_all is_path (xs ++ ys) ≡ true → list_all is_path ys ≡ true
     behind [] ys h = h
-    behind (x ∷ xs) ys h = behind xs ys (right-true (is_path x) (list_all is_path (xs ++ ys)) h)
+    behind (x ∷ xs) ys h = behind xs ys (and_parts (is_path x) (list_all is_path (xs ++ ys)) h).1
 
 landed_are_paths : (deed : Deed) → has_paths deed ≡ true → list_all is_path (landed_paths deed) ≡ true
 landed_are_paths (Land l) all = entries_are_paths l.entries all

@@ -4,7 +4,7 @@ use Rattle.std.specs.Prelude.{◌&&◌, codes, drop, filter, if◌then◌else◌
 use Rattle.std.specs.Ordering.{ordering_then, is_lt, is_gt}
 use Rattle.std.specs.declared.cmp.Ordering.{Ordering}
 use Rattle.std.specs.declared.cmp.Ordering.TheVariants.{Less, Equal, Greater}
-use Rattle.std.proofs.lemmas.Bool.{true≢false, false≢true}
+use Rattle.std.proofs.lemmas.Bool.{true≢false, false≢true, and_parts}
 use Rattle.depot_rows.specs.depot_path.Bytes.{same, begins_with}
 use Rattle.depot_rows.specs.db_records.declared.key.Key.{Key}
 use Rattle.depot_rows.specs.db_records.declared.key.Key.TheVariants as keys
@@ -22,7 +22,7 @@ use Rattle.depot_rows.specs.Standing.{unplaced_at}
 use Rattle.depot_rows.specs.table_store.Marks.{is_fix_of}
 use Rattle.depot_rows.specs.table_store.Rows.{is_below, AllAbove, AllOfTable, IsRising, TableRows, rows_from}
 use Rattle.depot_rows.proofs.table_store.Order.{turned_greater}
-use Rattle.depot_rows.proofs.Keys.{left-true, right-true, same-is, same-self}
+use Rattle.depot_rows.proofs.Keys.{same-is, same-self}
 use Rattle.row_ranges.specs.Ranges.{has_row}
 use Rattle.row_ranges.specs.declared.range.KeyRange.TheVariants.{Forms}
 use Rattle.row_reads.specs.Forms.{names_in}
@@ -59,7 +59,7 @@ module _ (word start : List ℕ) where
 
   -- the kind of such a row, and what its name begins with
   named_is : (r : DomainRecord) → test (records.Domain r) ≡ true → (word ≡ r.kind) × (begins_with r.name start ≡ true)
-  named_is r e = (same-is word r.kind (left-true (same word r.kind) (begins_with r.name start) e), right-true (same word r.kind) (begins_with r.name start) e)
+  named_is r e = (same-is word r.kind (and_parts (same word r.kind) (begins_with r.name start) e).0, (and_parts (same word r.kind) (begins_with r.name start) e).1)
 
   in_named : (r : DomainRecord) → word ≡ r.kind → begins_with r.name start ≡ true → test (records.Domain r) ≡ true
   in_named r is begins = (λ i. same word (sym is i) && begins i) ∙ ap (λ s. s && true) (same-self word)

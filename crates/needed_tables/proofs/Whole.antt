@@ -2,6 +2,7 @@
 use Rattle.std.proofs.Common.{◌≡◌, ℕ, Bool, true, false, List, [], Result, Ok, Err, refl, ap, ◌∙◌}
 use Rattle.std.specs.Prelude.{◌||◌}
 use Rattle.std.specs.List.{AllByRecursion}
+use Rattle.std.proofs.lemmas.Bool.{or_parts}
 use Rattle.depot_rows.specs.db_records.Key.{key_table}
 use Rattle.depot_rows.specs.db_records.Record.{table_of}
 use Rattle.depot_rows.specs.db_records.declared.change.Change.{Change}
@@ -77,16 +78,12 @@ module _ (d : List Deed) (request : Request) where
   deeds_none fault is = ap (λ (asked : Result Command WordFault). (step_by asked).deeds) is
 
 -- a table that isn't touched isn't written
-unwritten : (a b : Bool) → (a || b) ≡ false → b ≡ false
-unwritten true b e = absurd cc
-unwritten false b e = e
-
 pub outcome_alike : (rows all : AllRows) (from : ℕ) (d : List Deed) (request : Request) (outcome : Outcome) → Stand all d → AgreeOnNeeded rows all request
     → AreNeeded request outcome.changes → IsOutcome rows from d request outcome → IsOutcome all from d request outcome
 outcome_alike rows all from d request outcome stand agree own is = go request.command refl agree own
   where
     none_written : (command : Command) (table : TableId) → touches command table ≡ false → writes command table ≡ false
-    none_written command table away = unwritten (model.reads command table) (writes command table) away
+    none_written command table away = (or_parts (model.reads command table) (writes command table) away).1
 
     go : (asked : Result Command WordFault) → request.command ≡ asked → ((table : TableId) → needs_table asked table ≡ true → rows table ≡ all table)
         → AllByRecursion (λ (change : Change). needs_table asked (table_of change.row) ≡ true) outcome.changes → IsOutcome all from d request outcome

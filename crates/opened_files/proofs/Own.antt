@@ -2,7 +2,7 @@
 use Rattle.std.proofs.Common.{◌≡◌, ℕ, Bool, true, false, List, [], ◌∷◌, refl, sym, ap, ◌∙◌, length, arith, Option, Some, None}
 use Rattle.std.specs.Prelude.{◌&&◌, ◌||◌, filter, if◌then◌else◌, is_some, nat_lt}
 use Rattle.std.specs.List.{list_any}
-use Rattle.std.proofs.lemmas.Bool.{false≢true}
+use Rattle.std.proofs.lemmas.Bool.{false≢true, or_right}
 use Rattle.std.proofs.lemmas.Bool.Decides.{nat_tests}
 use Rattle.depot_rows.specs.depot_path.Bytes.{same}
 use Rattle.depot_rows.specs.depot_model.declared.request.Caller.{Caller}
@@ -22,15 +22,6 @@ some_kept test (c ∷ cs) = go (test c) (some_kept test cs)
     go : (b : Bool) → nat_lt 0 (length (filter test cs)) ≡ list_any test cs → nat_lt 0 (length (if b then c ∷ filter test cs else filter test cs)) ≡ (b || list_any test cs)
     go true more = grind (arith, nat_tests)
     go false more = more
-
-and_true : (a b : Bool) → a ≡ true → b ≡ true → (a && b) ≡ true
-and_true true true e k = refl
-and_true true false e k = k
-and_true false b e k = e
-
-or_right : (a b : Bool) → b ≡ true → (a || b) ≡ true
-or_right true b e = refl
-or_right false b e = e
 
 module _ (d : List Deed) (client path : List ℕ) where
   abbrev has_it : List ℕ → Bool

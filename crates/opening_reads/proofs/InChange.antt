@@ -7,6 +7,7 @@ use Rattle.std.specs.declared.cmp.Ordering.{Ordering}
 use Rattle.std.specs.declared.cmp.Ordering.TheVariants.{Less, Equal, Greater}
 use Rattle.std.specs.Cmp.Lexicographic.{slice_cmp}
 use Rattle.std.proofs.lemmas.List.{map-append}
+use Rattle.std.proofs.lemmas.Bool.{and_parts}
 use Rattle.depot_rows.specs.depot_path.Bytes.{same}
 use Rattle.depot_rows.specs.depot_path.Order.{path_cmp}
 use Rattle.depot_rows.specs.depot_path.Path.{path_of, printed, is_path}
@@ -31,7 +32,7 @@ use Rattle.depot_rows.specs.depot_model.declared.request.Caller.{Caller}
 use Rattle.depot_rows.specs.Deed.{opening_of}
 use Rattle.depot_rows.specs.Standing.{unplaced_at}
 use Rattle.depot_rows.proofs.Entries.{In}
-use Rattle.depot_rows.proofs.Keys.{same-is, same-self, left-true, right-true}
+use Rattle.depot_rows.proofs.Keys.{same-is, same-self}
 use Rattle.depot_rows.proofs.Locks.{opened-is}
 use Rattle.depot_rows.proofs.Sorted.{insert_rises, path_order}
 use Rattle.depot_rows.specs.Rising.{Below, Rise}
@@ -47,9 +48,9 @@ use Rattle.opening_reads.proofs.ToldRows.{IsTold, rows_told}
 paths_rise : (d : List Deed) → list_all has_paths d ≡ true → Rise (paths_of open_paths d)
 paths_rise [] all = tt
 paths_rise (Open o ∷ d) all =
-    insert_rises o.path (paths_of open_paths d) (left-true (is_path o.path) _ (left-true (has_paths (Open o)) (list_all has_paths d) all))
-    (paths_rise d (right-true (has_paths (Open o)) (list_all has_paths d) all))
-paths_rise (deed ∷ d) all = paths_rise d (right-true (has_paths deed) (list_all has_paths d) all)
+    insert_rises o.path (paths_of open_paths d) (and_parts (is_path o.path) _ (and_parts (has_paths (Open o)) (list_all has_paths d) all).0).0
+    (paths_rise d (and_parts (has_paths (Open o)) (list_all has_paths d) all).1)
+paths_rise (deed ∷ d) all = paths_rise d (and_parts (has_paths deed) (list_all has_paths d) all).1
 
 module _ (d : List Deed) (sound : IsSound d) (client : List ℕ) where
   abbrev has : List ℕ → Bool

@@ -2,6 +2,7 @@
 use Rattle.std.proofs.Common.{◌≡◌, ℕ, Bool, true, Option, Some, None, List, [], Result, Ok, Err, refl, sym, ap, subst}
 use Rattle.std.specs.Prelude.{option_map, unwrap_or, ◌&&◌, ◌++◌, if◌then◌else◌}
 use Rattle.std.specs.List.{list_all}
+use Rattle.std.proofs.lemmas.Bool.{and_parts}
 use Rattle.depot_rows.specs.depot_path.Path.{printed, is_path}
 use Rattle.depot_rows.specs.depot_path.declared.fault.PathFault.{PathFault}
 use Rattle.depot_rows.proofs.depot_path.Paths.{prints_path}
@@ -17,7 +18,6 @@ use Rattle.depot_rows.specs.depot_model.Rules.{IsSound, opening_paths, path_or_n
 use Rattle.depot_rows.specs.depot_model.Steps.Reverting.{moved}
 use Rattle.depot_rows.specs.Deed.{action_of, opening_of, source_of}
 use Rattle.depot_rows.proofs.CutPairs.{opening_paths_are}
-use Rattle.depot_rows.proofs.Keys.{left-true, right-true}
 use Rattle.depot_rows.proofs.Locks.{IsOf, opened-is}
 use Rattle.opening_reads.specs.Read.{opening_in_row, path_in_text, source_at, source_in_row, word_action}
 
@@ -35,7 +35,7 @@ path_is path is = ap (λ (r : Result (List ℕ) PathFault). elim r as (λ _. Opt
 
 pub moved_is : (m : Option (List ℕ)) → list_all is_path (path_or_none m) ≡ true → path_in_text (printed_or_empty m) ≡ m
 moved_is None is = refl
-moved_is (Some p) is = path_is p (left-true (is_path p) true is)
+moved_is (Some p) is = path_is p (and_parts (is_path p) true is).0
 
 abbrev source_text : Option Source → List ℕ
 source_text s = elim s [ None ↦ [] | Some s ↦ printed s.path ]
@@ -46,12 +46,12 @@ source_number s = elim s [ None ↦ 0 | Some s ↦ s.rev ]
 pub source_is : (s : Option Source) → list_all is_path (path_or_none (option_map (λ (x : Source). x.path) s)) ≡ true
     → option_map source_of (source_in_row (source_text s) (source_number s)) ≡ s
 source_is None is = refl
-source_is (Some s) is = ap (λ (p : Option (List ℕ)). option_map source_of (option_map (source_at s.rev) p)) (path_is s.path (left-true (is_path s.path) true is))
+source_is (Some s) is = ap (λ (p : Option (List ℕ)). option_map source_of (option_map (source_at s.rev) p)) (path_is s.path (and_parts (is_path s.path) true is).0)
 
 pub parts : (m : Option (List ℕ)) (rest : List (List ℕ)) → list_all is_path (path_or_none m ++ rest) ≡ true
     → (list_all is_path (path_or_none m) ≡ true) × (list_all is_path rest ≡ true)
 parts None rest is = (refl, is)
-parts (Some p) rest is = (ap (λ (b : Bool). b && true) (left-true (is_path p) (list_all is_path rest) is), right-true (is_path p) (list_all is_path rest) is)
+parts (Some p) rest is = (ap (λ (b : Bool). b && true) (and_parts (is_path p) (list_all is_path rest) is).0, (and_parts (is_path p) (list_all is_path rest) is).1)
 
 -- the row of an opening
 abbrev row_of : ℕ → Opening → WorkingRecord
@@ -72,7 +72,7 @@ pub opening_is : (client path : List ℕ) (o : Opening) (lock : ℕ) (change : O
     → list_all is_path (opening_paths o) ≡ true → opening_of (opening_in_row client path (row_of lock o) change type) ≡ moved change type o
 opening_is client path o lock change type of is =
     let sources = path_or_none (option_map (λ (s : Source). s.path) o.source) in
-    let both = parts o.moved sources (right-true (is_path o.path) (list_all is_path (path_or_none o.moved ++ sources)) is) in
+    let both = parts o.moved sources (and_parts (is_path o.path) (list_all is_path (path_or_none o.moved ++ sources)) is).1 in
     λ i. record {
       client = sym of.0 i;
       path = sym of.1 i;

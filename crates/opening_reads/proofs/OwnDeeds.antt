@@ -6,7 +6,7 @@ use Rattle.std.specs.List.{list_all}
 use Rattle.std.specs.Option.{option_flatten, option_map_or, option_or}
 use Rattle.std.specs.Ordering.{is_lt, nat_cmp}
 use Rattle.std.specs.Cmp.Lexicographic.{slice_cmp}
-use Rattle.std.proofs.lemmas.Bool.{false≢true}
+use Rattle.std.proofs.lemmas.Bool.{false≢true, and_parts}
 use Rattle.std.proofs.lemmas.Option.{same_Some}
 use Rattle.depot_rows.specs.depot_path.Bytes.{same}
 use Rattle.depot_rows.specs.depot_path.Order.{path_cmp}
@@ -23,7 +23,7 @@ use Rattle.depot_rows.specs.Effects.{Follow}
 use Rattle.depot_rows.specs.declared.deed.Deed.{Deed as Done}
 use Rattle.depot_rows.specs.declared.deed.Deed.TheVariants as dones
 use Rattle.depot_rows.specs.declared.deed.Opening.{Opening as DoneOpening}
-use Rattle.depot_rows.proofs.Keys.{left-true, right-true, same-is}
+use Rattle.depot_rows.proofs.Keys.{same-is}
 use Rattle.opening_reads.specs.OwnOpenings.{BecomesBy, Came, Changed, IsOwn, is_of, opened_after}
 use Rattle.opening_reads.specs.declared.own_openings.OwnOpenings.{OwnOpenings}
 use Rattle.opening_reads.proofs.Onwards.{all_but_first}
@@ -65,8 +65,8 @@ module _ {A : Type 0} (client : List ℕ) (says : List Deed → A)
   kept_under : (d deeds : List Deed) → list_all (is_of client) deeds ≡ true → says (deeds ++ d) ≡ says d
   kept_under d [] own = refl
   kept_under d (deed ∷ deeds) own =
-      stays deed (deeds ++ d) (left-true (is_of client deed) (list_all (is_of client) deeds) own)
-      ∙ kept_under d deeds (right-true (is_of client deed) (list_all (is_of client) deeds) own)
+      stays deed (deeds ++ d) (and_parts (is_of client deed) (list_all (is_of client) deeds) own).0
+      ∙ kept_under d deeds (and_parts (is_of client deed) (list_all (is_of client) deeds) own).1
 
   pub kept : (d e : List Deed) → Came client d e → says e ≡ says d
   kept d e came = ap says came.those ∙ kept_under d came.deeds came.own
@@ -191,9 +191,9 @@ noted_on client d end (x ∷ left) deed old new some first becomes was =
       now = y ∷ was.now;
       deeds = deeds;
       follow = follow.2;
-      theirs = right-true (is_of client y) (list_all (is_of client) deeds) theirs;
+      theirs = (and_parts (is_of client y) (list_all (is_of client) deeds) theirs).1;
       own_now = own_deed client d was.now old new was.own_now x y follow.0 (subst (λ (z : Done). BecomesBy z old.changed new.changed) first becomes)
-          (left-true (is_of client y) (list_all (is_of client) deeds) theirs);
+          (and_parts (is_of client y) (list_all (is_of client) deeds) theirs).0;
       whole = whole;
     }
 

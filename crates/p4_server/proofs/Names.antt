@@ -5,17 +5,10 @@ use Rattle.std.specs.Option.{option_and_then}
 use Rattle.std.proofs.lemmas.List.Folds.{list_any_at}
 use Rattle.std.proofs.lemmas.List.Kept.{AllPairs-cons}
 use Rattle.std.proofs.lemmas.Slice.Eq.{bytes_eq-Decides}
+use Rattle.std.proofs.lemmas.Bool.{and_parts}
 use Rattle.depot_rows.specs.depot_path.Bytes.{same}
 use Rattle.p4_server.specs.Parties.{AreDifferent}
 use Rattle.program_words.specs.Words.{Job, Said, asked, asked_by, init, dump, checkpoint, load, schedule, serve, said_from, job_of_words, job_with, seed_given, count_given, are_party_names, are_distinct, anything}
-
-left_of : (a b : Bool) → (a && b) ≡ true → a ≡ true
-left_of true b e = refl
-left_of false b e = e
-
-right_of : (a b : Bool) → (a && b) ≡ true → b ≡ true
-right_of true b e = e
-right_of false b e = absurd cc
 
 false_of : (b : Bool) → not b ≡ true → b ≡ false
 false_of true e = absurd cc
@@ -29,13 +22,13 @@ same_self a = (bytes_eq-Decides a a).1 refl
 pub different_of : (names : List (List ℕ)) → are_distinct names ≡ true → AreDifferent names
 different_of [] e = λ i j d lt1 lt2. absurd (omega (arith, lt2))
 different_of (name ∷ names) e =
-    let none : list_any (same name) names ≡ false = false_of (list_any (same name) names) (left_of (not (list_any (same name) names)) (are_distinct names) e) in
+    let none : list_any (same name) names ≡ false = false_of (list_any (same name) names) (and_parts (not (list_any (same name) names)) (are_distinct names) e).0 in
     AllPairs-cons (λ one other. one ≢ other) name names
     (λ k d lt is.
     let some : list_any (same name) names ≡ true = list_any_at (same name) names k d lt (ap (same name) (sym is) ∙ same_self name) in
     let clash : true ≡ false = sym some ∙ none in
     absurd cc)
-    (different_of names (right_of (not (list_any (same name) names)) (are_distinct names) e))
+    (different_of names (and_parts (not (list_any (same name) names)) (are_distinct names) e).1)
 
 -- ---- what is asked
 
@@ -85,7 +78,7 @@ party_names words = of_said (said_from anything words)
 
 -- the names are different
 pub names_differ : (seed : ℕ) (names words : List (List ℕ)) → asked words ≡ Some (schedule seed names) → AreDifferent names
-names_differ seed names words asks = different_of names (right_of _ (are_distinct names) (subst AllNamed asks (party_names words)))
+names_differ seed names words asks = different_of names (and_parts _ (are_distinct names) (subst AllNamed asks (party_names words))).1
 
 pub served_differ : (names words : List (List ℕ)) → asked words ≡ Some (serve names) → AreDifferent names
-served_differ names words asks = different_of names (right_of _ (are_distinct names) (subst AllNamed asks (party_names words)))
+served_differ names words asks = different_of names (and_parts _ (are_distinct names) (subst AllNamed asks (party_names words))).1

@@ -2,7 +2,7 @@
 use Rattle.std.proofs.Common.{◌≡◌, inl, inr, ℕ, ◌+◌, ◌≤◌, nat_le, Bool, true, false, cond, List, [], ◌∷◌, ◌++◌, length, refl, sym, ap, ◌∙◌, arith}
 use Rattle.std.specs.Prelude.{◌&&◌, ◌||◌, ◌==◌, not, nat_eq}
 use Rattle.std.specs.List.{list_any, list_all}
-use Rattle.std.proofs.lemmas.Bool.{cases_lt, eqb-true}
+use Rattle.std.proofs.lemmas.Bool.{cases_lt, eqb-true, and_parts}
 use Rattle.std.proofs.lemmas.Bool.Decides.{nat_tests}
 use Rattle.depot_path.specs.Path.{begins_with_slashes}
 use Rattle.depot_path.specs.Fit.{fits}
@@ -103,10 +103,6 @@ dots_fit : (t : List ℕ) → fits (Dots ∷ []) t ≡ true
 dots_fit [] = begin Dots []
 dots_fit (x ∷ t) = step Dots [] x t ∙ ap (λ c. false || c) (dots_fit t)
 
-and_both : (a b : Bool) → (a && b) ≡ true → (a ≡ true) × (b ≡ true)
-and_both true b e = (refl, e)
-and_both false b e = absurd cc
-
 whole_fits : (path : List ℕ) → begins_with_slashes path ≡ true → fits (Byte 47 ∷ Byte 47 ∷ Dots ∷ []) path ≡ true
 whole_fits [] e = absurd cc
 whole_fits (a ∷ []) e = absurd (absurd_by (nat_eq 47 a) e)
@@ -115,14 +111,14 @@ whole_fits (a ∷ []) e = absurd (absurd_by (nat_eq 47 a) e)
     absurd_by true e = cc
     absurd_by false e = cc
 whole_fits (a ∷ b ∷ t) e =
-    let h = and_both (nat_eq 47 a) (nat_eq 47 b && true) e in
-    let k = and_both (nat_eq 47 b) true h.1 in
+    let h = and_parts (nat_eq 47 a) (nat_eq 47 b && true) e in
+    let k = and_parts (nat_eq 47 b) true h.1 in
     step (Byte 47) (Byte 47 ∷ Dots ∷ []) a (b ∷ t) ∙ ap (λ c. c && fits (Byte 47 ∷ Dots ∷ []) (b ∷ t)) h.0
     ∙ step (Byte 47) (Dots ∷ []) b t ∙ ap (λ c. c && fits (Dots ∷ []) t) k.0 ∙ dots_fit t
 
 whole_is : (p : List Piece) → is_whole p ≡ true → p ≡ Byte 47 ∷ Byte 47 ∷ Dots ∷ []
 whole_is (Byte a ∷ Byte b ∷ Dots ∷ []) e =
-    let h = and_both (a == 47) (b == 47) e in
+    let h = and_parts (a == 47) (b == 47) e in
     ap (λ x. Byte x ∷ Byte b ∷ Dots ∷ []) (eqb-true a 47 h.0) ∙ ap (λ x. Byte 47 ∷ Byte x ∷ Dots ∷ []) (eqb-true b 47 h.1)
 whole_is _ e = absurd cc
 
@@ -203,7 +199,7 @@ pub record Lowers (g g' d d' : Test) : Type 0 where
 any_same : (g g' d d' : Test) → Lowers g g' d d' → (lines : List ProtectLine) → list_all is_ordinary lines ≡ true → list_any d' lines ≡ list_any d lines
 any_same g g' d d' h [] e = refl
 any_same g g' d d' h (y ∷ lines) e =
-    let k = and_both (is_ordinary y) (list_all is_ordinary lines) e in
+    let k = and_parts (is_ordinary y) (list_all is_ordinary lines) e in
     ap (λ c. c || list_any d' lines) (h.deny y k.0) ∙ ap (λ c. d y || c) (any_same g g' d d' h lines k.1)
 
 or_still : (a b n s s' : Bool) → (a ≡ true → b ≡ true) → (s ≡ true → s' ≡ true) → ((a && n) || s) ≡ true → ((b && n) || s') ≡ true
@@ -222,7 +218,7 @@ or_still false b n s s' h k e = ap (λ x. (b && n) || x) (k e) ∙ last (b && n)
 stands_lower : (g g' d d' : Test) → Lowers g g' d d' → (lines : List ProtectLine) → list_all is_ordinary lines ≡ true → stands g d lines ≡ true → stands g' d' lines ≡ true
 stands_lower g g' d d' h [] e s = s
 stands_lower g g' d d' h (y ∷ lines) e s =
-    let k = and_both (is_ordinary y) (list_all is_ordinary lines) e in
+    let k = and_parts (is_ordinary y) (list_all is_ordinary lines) e in
     ap (λ c. (g' y && not c) || stands g' d' lines) (any_same g g' d d' h lines k.1)
     ∙ or_still (g y) (g' y) (not (list_any d lines)) (stands g d lines) (stands g' d' lines) (h.grant y k.0) (stands_lower g g' d d' h lines k.1) s
 

@@ -1,7 +1,7 @@
 -- How the rows of a word go on by one byte.
 use Rattle.std.proofs.Common.{◌≡◌, ◌≢◌, ℕ, zero, suc, ◌+◌, ◌<◌, ◌≤◌, Bool, true, false, cond, List, [], ◌∷◌, length, slice_set, slice_index, inl, inr, drop, refl, sym, ap, subst, get_or, ◌∙◌, arith}
 use Rattle.std.specs.Prelude.{◌&&◌, ◌||◌, ◌==◌, nat_le}
-use Rattle.std.proofs.lemmas.Bool.{cases_lt}
+use Rattle.std.proofs.lemmas.Bool.{cases_lt, and_parts}
 use Rattle.std.proofs.lemmas.Bool.Decides.{nat_tests}
 use Rattle.std.proofs.lemmas.Grind.{get_or-set_at}
 use Rattle.std.proofs.lemmas.List.{get_or-set_other, at_drop_all}
@@ -164,13 +164,9 @@ any_text (b ∷ []) text h e = ap (λ c. fits_word (c ∷ []) text) e ∙ anywhe
 
 -- ---- names
 
-first_of_both : (a b : Bool) → (a && b) ≡ true → a ≡ true
-first_of_both true b e = refl
-first_of_both false b e = absurd cc
-
 at_most : (a : Bool) (n : ℕ) → (a && nat_le n 128) ≡ true → n ≤ 128
 at_most true n e = grind (arith, nat_tests)
 at_most false n e = absurd cc
 
 pub short_name : (text : List ℕ) → is_name text ≡ true → length text ≤ 128
-short_name text e = at_most _ (length text) (first_of_both _ _ (first_of_both _ _ (first_of_both _ _ (first_of_both _ _ e))))
+short_name text e = at_most _ (length text) (and_parts _ _ (and_parts _ _ (and_parts _ _ (and_parts _ _ e).0).0).0).0

@@ -2,7 +2,7 @@
 use Rattle.std.proofs.Common.{◌≡◌, ℕ, zero, suc, ◌+◌, ◌-◌, ◌<◌, ◌≤◌, Bool, true, false, cond, List, [], ◌∷◌, length, take, drop, slice_index, refl, sym, ap, subst, ◌∙◌, arith, length-drop}
 use Rattle.std.specs.Prelude.{◌&&◌, not, ◌==◌, filter}
 use Rattle.std.specs.List.{onto_first}
-use Rattle.std.proofs.lemmas.Bool.{eqb-true}
+use Rattle.std.proofs.lemmas.Bool.{eqb-true, and_parts}
 use Rattle.std.proofs.lemmas.List.{take_all}
 use Rattle.protect_table.specs.Words.{parts_words, quoted_after, joined, between_spaces, is_word, is_comment, before_comment, words_of, counted, word_length, at_first, without_spaces}
 
@@ -31,16 +31,12 @@ abbrev after_part : List ℕ → List (List ℕ)
 after_part [] = []
 after_part (b ∷ text) = between_spaces false text
 
-and_true : (a b : Bool) → (a && b) ≡ true → (a ≡ true) × (b ≡ true)
-and_true true b e = (refl, e)
-and_true false b e = absurd cc
-
 not_true : (a : Bool) → not a ≡ true → a ≡ false
 not_true true e = absurd cc
 not_true false e = refl
 
 is_parting : (quoted : Bool) (b : ℕ) → parts_words quoted b ≡ true → (b ≡ 32) × (quoted ≡ false)
-is_parting quoted b e = let h = and_true (b == 32) (not quoted) e in (eqb-true b 32 h.0, not_true quoted h.1)
+is_parting quoted b e = let h = and_parts (b == 32) (not quoted) e in (eqb-true b 32 h.0, not_true quoted h.1)
 
 outside : (quoted : Bool) (b : ℕ) → parts_words quoted b ≡ true → quoted_after quoted b ≡ false
 outside quoted b e = let h = is_parting quoted b e in ap (quoted_after quoted) h.0 ∙ h.1

@@ -2,8 +2,9 @@
 use Rattle.std.proofs.Common.{◌≡◌, ℕ, Bool, true, false, List, [], ◌∷◌, ◌++◌, refl, sym, ap, ◌∙◌, append_assoc, append-nil}
 use Rattle.std.specs.Prelude.{◌==◌, codes, decimal}
 use Rattle.std.specs.List.{list_all}
+use Rattle.std.proofs.lemmas.Bool.{and_parts}
 use Rattle.depot_rows.specs.depot_path.Bytes.{is_digit}
-use Rattle.depot_rows.proofs.Keys.{left-true, right-true, number-is}
+use Rattle.depot_rows.proofs.Keys.{number-is}
 use Rattle.depot_facts.proofs.Decimals.{decimal_digits}
 use Rattle.depot_rows.specs.depot_model.Printed.{printed, printed_field, printed_value}
 use Rattle.depot_rows.specs.depot_model.Rows.{number_field}
@@ -13,7 +14,7 @@ use Rattle.wire_text.proofs.Values.{value_plain}
 
 digits_plain : (ds : List ℕ) → list_all is_digit ds ≡ true → IsFree 10 ds
 digits_plain [] e = tt
-digits_plain (d ∷ ds) e = (apart (d == 10) refl (left-true (is_digit d) (list_all is_digit ds) e), digits_plain ds (right-true (is_digit d) (list_all is_digit ds) e))
+digits_plain (d ∷ ds) e = (apart (d == 10) refl (and_parts (is_digit d) (list_all is_digit ds) e).0, digits_plain ds (and_parts (is_digit d) (list_all is_digit ds) e).1)
   where
     apart : (b : Bool) → (d == 10) ≡ b → is_digit d ≡ true → (d == 10) ≡ false
     apart true h k = absurd (let f : is_digit d ≡ false = ap is_digit (number-is d 10 h) in cc)

@@ -3,6 +3,7 @@ use Rattle.std.proofs.Common.{◌≡◌, ℕ, ◌+◌, ◌<◌, Bool, true, fals
 use Rattle.std.specs.Prelude.{option_map, ◌||◌}
 use Rattle.std.specs.List.{list_any}
 use Rattle.std.proofs.lemmas.List.{take_more, drop_more, take-append-drop}
+use Rattle.std.proofs.lemmas.Bool.{or_parts}
 use Rattle.depot_rows.specs.depot_path.Path.{printed}
 use Rattle.depot_rows.specs.db_records.declared.key.Key.{Key}
 use Rattle.depot_rows.specs.db_records.declared.key.Key.TheVariants as keys
@@ -108,13 +109,9 @@ no-hold (deeds.Owe a) before e = tt
 no-hold (deeds.Paid a b x) before e = tt
 no-hold (deeds.Land a) before e = tt
 
-neither : (a b : Bool) → (a || b) ≡ false → (a ≡ false) × (b ≡ false)
-neither true b e = absurd cc
-neither false b e = (refl, e)
-
 no-holds : (dones : List Deed) (before : Rows) → list_any is_hold dones ≡ false → AllMayLock dones before
 no-holds [] before e = tt
-no-holds (x ∷ xs) before e = let two = neither (is_hold x) (list_any is_hold xs) e in (no-hold x before two.0, no-holds xs (effect x before) two.1)
+no-holds (x ∷ xs) before e = let two = or_parts (is_hold x) (list_any is_hold xs) e in (no-hold x before two.0, no-holds xs (effect x before) two.1)
 
 -- deeds that follow may lock what they lock, where the table of opened files is the depot's
 pub may-lock-all : (dones : List Deed) (d done : List model.Deed) (before : Rows) → NotBoth d → Follow d dones done

@@ -5,6 +5,7 @@ use Rattle.std.specs.BTreeMap.{insert_entry}
 use Rattle.std.specs.Ordering.{is_eq, match_ordering}
 use Rattle.std.specs.declared.cmp.Ordering.{Ordering}
 use Rattle.std.specs.declared.cmp.Ordering.TheVariants.{Less, Equal, Greater}
+use Rattle.std.proofs.lemmas.Bool.{and_parts}
 use Rattle.depot_rows.specs.db_records.declared.key.Key.{Key}
 use Rattle.depot_rows.specs.db_records.declared.record.Record.{Record}
 use Rattle.depot_rows.specs.db_records.Key.{key_cmp}
@@ -26,10 +27,6 @@ row_at-keyed key (row ∷ rows) = go (row_at-keyed key rows) (stands_at key row)
     go rest true h = subst (λ (b : Bool). HasKey (cond b (Some row) (row_at key rows)) key) (sym h) (key-at key row h)
     go rest false h = subst (λ (b : Bool). HasKey (cond b (Some row) (row_at key rows)) key) (sym h) rest
 
-both : (a b : Bool) → (a && b) ≡ true → (a ≡ true) × (b ≡ true)
-both true b h = (refl, h)
-both false b h = absurd cc
-
 keyed-entry : (e : Key × Option Record) → is_keyed e ≡ true → HasKey e.1 e.0
 keyed-entry (key, None) h = tt
 keyed-entry (key, Some row) h = sym (equal-keys key (key_of row) h)
@@ -40,7 +37,7 @@ entry-keyed (key, Some row) h = ap is_eq ((keys_equal key (key_of row)).1 (sym h
 
 pub are-keyed : (es : Entries) → IsTrue (all_keyed es) → AreKeyed es
 are-keyed [] h = tt
-are-keyed (e ∷ es) h = let two = both (is_keyed e) (all_keyed es) h in (keyed-entry e two.0, are-keyed es two.1)
+are-keyed (e ∷ es) h = let two = and_parts (is_keyed e) (all_keyed es) h in (keyed-entry e two.0, are-keyed es two.1)
 
 all-keyed : (es : Entries) → AreKeyed es → IsTrue (all_keyed es)
 all-keyed [] h = refl

@@ -9,6 +9,7 @@ use Rattle.std.specs.declared.cmp.Ordering.{Ordering}
 use Rattle.std.specs.declared.cmp.Ordering.TheVariants.{Less, Equal, Greater}
 use Rattle.std.proofs.lemmas.Map.Text.{is_eq-slice_cmp}
 use Rattle.std.proofs.lemmas.Slice.Eq.{bytes_eq-Decides}
+use Rattle.std.proofs.lemmas.Bool.{or_right}
 use Rattle.depot_rows.specs.depot_path.Bytes.{same}
 use Rattle.depot_rows.specs.depot_path.Name.{is_name}
 use Rattle.depot_rows.specs.db_records.Key.{key_cmp, key_table}
@@ -33,10 +34,6 @@ use Rattle.depot_rows.specs.table_store.Marks.{is_of_user}
 use Rattle.row_reads.specs.Groups.{group_in, groups_in}
 use Rattle.depot_rows.specs.Standing.{unplaced_at}
 use Rattle.row_reads.proofs.Alike.{itself, rows_alike, above_all, here, behind, unplaced_row}
-
-or_right : (a b : Bool) → b ≡ true → (a || b) ≡ true
-or_right true b e = refl
-or_right false b e = e
 
 pub same_text : (a b : List ℕ) → same a b ≡ true → a ≡ b
 same_text a b e = (bytes_eq-Decides a b).0 e

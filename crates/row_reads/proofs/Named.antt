@@ -8,6 +8,7 @@ use Rattle.std.specs.declared.cmp.Ordering.{Ordering}
 use Rattle.std.specs.declared.cmp.Ordering.TheVariants.{Less, Equal, Greater}
 use Rattle.std.proofs.lemmas.Cmp.{nat_list_cmp_total, tied_itself}
 use Rattle.std.proofs.lemmas.Map.Text.{is_eq-slice_cmp}
+use Rattle.std.proofs.lemmas.Bool.{or_from, or_parts}
 use Rattle.depot_rows.specs.depot_path.Bytes.{same}
 use Rattle.depot_rows.specs.db_records.Key.{key_cmp, key_table}
 use Rattle.depot_rows.specs.db_records.Record.{key_of}
@@ -91,29 +92,21 @@ pub all_are : (P Q : List ℕ → Type 0) → ((x : List ℕ) → P x → Q x) �
 all_are P Q more [] all = tt
 all_are P Q more (x ∷ xs) all = (more x all.0, all_are P Q more xs all.1)
 
-or_false : (a b : Bool) → (a || b) ≡ false → (a ≡ false) × (b ≡ false)
-or_false false b e = (refl, e)
-or_false true b e = absurd cc
-
-both_false : (a b : Bool) → a ≡ false → b ≡ false → (a || b) ≡ false
-both_false false b p q = q
-both_false true b p q = absurd cc
-
 -- a name that isn't among others with one more isn't the one, and isn't among the others
 placed_lacks : (g x y : List ℕ) (ys : List (List ℕ)) (b c : Bool) → same x y ≡ b → list_any (same g) (placed x y ys b c) ≡ false
     → (list_any (same g) (inserted x ys) ≡ false → (same g x ≡ false) × (list_any (same g) ys ≡ false))
     → (same g x ≡ false) × (list_any (same g) (y ∷ ys) ≡ false)
 placed_lacks g x y ys true c e lacks more =
     let P : List ℕ → Type 0 = λ z. same g z ≡ false in
-    (subst P (sym (same_text x y e)) (or_false (same g y) (list_any (same g) ys) lacks).0, lacks)
-placed_lacks g x y ys false true e lacks more = or_false (same g x) (list_any (same g) (y ∷ ys)) lacks
+    (subst P (sym (same_text x y e)) (or_parts (same g y) (list_any (same g) ys) lacks).0, lacks)
+placed_lacks g x y ys false true e lacks more = or_parts (same g x) (list_any (same g) (y ∷ ys)) lacks
 placed_lacks g x y ys false false e lacks more =
-    let h = or_false (same g y) (list_any (same g) (inserted x ys)) lacks in
+    let h = or_parts (same g y) (list_any (same g) (inserted x ys)) lacks in
     let k = more h.1 in
-    (k.0, both_false (same g y) (list_any (same g) ys) h.0 k.1)
+    (k.0, or_from (same g y) (list_any (same g) ys) h.0 k.1)
 
 pub inserted_lacks : (g x : List ℕ) (ys : List (List ℕ)) → list_any (same g) (inserted x ys) ≡ false → (same g x ≡ false) × (list_any (same g) ys ≡ false)
-inserted_lacks g x [] lacks = or_false (same g x) false lacks
+inserted_lacks g x [] lacks = or_parts (same g x) false lacks
 inserted_lacks g x (y ∷ ys) lacks = placed_lacks g x y ys (same x y) (is_lt (slice_cmp nat_cmp x y)) refl lacks (inserted_lacks g x ys)
 
 other_way : (x y : List ℕ) (b : Bool) → same x y ≡ b → same y x ≡ false → same x y ≡ false
@@ -166,7 +159,7 @@ module _ (key : List ℕ → Key) (compared : (a b : List ℕ) → key_cmp (key 
   tied_name x y e = same_text y x (sym (is_eq-slice_cmp y x) ∙ ap is_eq e)
 
   behind_whole : (x y : List ℕ) (ys : List (List ℕ)) → same y x ≡ false → IsWhole x (y ∷ ys) → IsWhole x ys
-  behind_whole x y ys n whole lacks = whole (both_false (same x y) (list_any (same x) ys) (other_way x y (same x y) refl n) lacks)
+  behind_whole x y ys n whole lacks = whole (or_from (same x y) (list_any (same x) ys) (other_way x y (same x y) refl n) lacks)
 
   untied : (x y : List ℕ) (o : Ordering) → slice_cmp nat_cmp y x ≡ o → is_eq o ≡ false → same y x ≡ false
   untied x y o e n = sym (is_eq-slice_cmp y x) ∙ ap is_eq e ∙ n

@@ -5,6 +5,7 @@ use Rattle.std.specs.List.{list_any}
 use Rattle.std.specs.Cmp.Lexicographic.{slice_cmp}
 use Rattle.std.specs.Ordering.{nat_cmp}
 use Rattle.std.specs.declared.cmp.Ordering.TheVariants.{Equal}
+use Rattle.std.proofs.lemmas.Bool.{or_from, or_right}
 use Rattle.depot_rows.specs.depot_path.Bytes.{same}
 use Rattle.depot_rows.specs.db_records.Key.{key_cmp, key_table}
 use Rattle.depot_rows.specs.db_records.Record.{key_of}
@@ -34,22 +35,14 @@ names_rise : (us : List (List ℕ)) → AreRising (by_name us)
 names_rise [] = tt
 names_rise (u ∷ us) = inserted_rise u (by_name us) (names_rise us)
 
-both_false : (a b : Bool) → a ≡ false → b ≡ false → (a || b) ≡ false
-both_false false b p q = q
-both_false true b p q = absurd cc
-
 unlisted : (x : List ℕ) (us : List (List ℕ)) → list_any (same x) (by_name us) ≡ false → list_any (same x) us ≡ false
 unlisted x [] lacks = refl
 unlisted x (u ∷ us) lacks =
     let h = inserted_lacks x u (by_name us) lacks in
-    both_false (same x u) (list_any (same x) us) h.0 (unlisted x us h.1)
+    or_from (same x u) (list_any (same x) us) h.0 (unlisted x us h.1)
 
 abbrev IsListed : List (List ℕ) → List ℕ → Type 0
 IsListed us x = list_any (same x) us ≡ true
-
-or_right : (a b : Bool) → b ≡ true → (a || b) ≡ true
-or_right true b e = refl
-or_right false b e = e
 
 all_listed : (us : List (List ℕ)) → AllAre (IsListed us) (by_name us)
 all_listed [] = tt

@@ -2,7 +2,7 @@
 use Rattle.std.proofs.Common.{◌≡◌, ◌<◌, ◌≤◌, ◌↔◌, ℕ, Bool, true, false, List, [], ◌∷◌, None, sym, ◌∙◌, arith}
 use Rattle.std.specs.Prelude.{◌&&◌, IsTrue, codes}
 use Rattle.std.specs.List.{list_all}
-use Rattle.std.proofs.lemmas.Bool.{true≢false}
+use Rattle.std.proofs.lemmas.Bool.{true≢false, and_parts}
 use Rattle.depot_rows.specs.db_records.declared.key.Key.TheVariants as keys
 use Rattle.depot_rows.specs.db_records.declared.record.Record.{Record}
 use Rattle.depot_rows.specs.db_records.Table.{all_tables}
@@ -12,7 +12,6 @@ use Rattle.depot_rows.specs.table_store.Rows.{IsRising, AllOfTable}
 use Rattle.depot_rows.specs.depot_model.Rules.{top_in, value_of}
 use Rattle.row_rules.specs.Kept.{KeepRowRules}
 use Rattle.row_rules.specs.Tests.{keeps, are_apart}
-use Rattle.row_rules.proofs.Deciding.{left, right}
 use Rattle.row_rules.proofs.Joined.{rows_in, rules_kept, all_keep}
 use Rattle.row_rules.proofs.OneLock.{one_lock, locks_apart}
 
@@ -38,10 +37,10 @@ module _ (test : TableId → Bool) where
       && (h tables.Integed i && (h tables.Resolve i && (h tables.Working i && (h tables.Change i && (h tables.Rev i && true))))))))))
 
   first : (table : TableId) (others : List TableId) → list_all test (table ∷ others) ≡ true → test table ≡ true
-  first table others e = left (test table) (list_all test others) e
+  first table others e = (and_parts (test table) (list_all test others) e).0
 
   rest : (table : TableId) (others : List TableId) → list_all test (table ∷ others) ≡ true → list_all test others ≡ true
-  rest table others e = right (test table) (list_all test others) e
+  rest table others e = (and_parts (test table) (list_all test others) e).1
 
   each_table : list_all test all_tables ≡ true → (table : TableId) → test table ≡ true
   each_table e =
@@ -92,10 +91,10 @@ module _ (lists : TableId → List Record) where
   decided up of top generation keep apart top_is top_low generation_is generation_low keep_is apart_is = (
     λ e.
         let all : (table : TableId) → list_all (keeps (rows_in lists)) (lists table) ≡ true =
-        each_table (λ table. list_all (keeps (rows_in lists)) (lists table)) (sym keep_is ∙ left keep apart e) in
+        each_table (λ table. list_all (keeps (rows_in lists)) (lists table)) (sym keep_is ∙ (and_parts keep apart e).0) in
         let top_fits : top_in (rows_in lists) ≤ 2147483647 = omega arith in
         let generation_fits : value_of (rows_in lists (keys.Counter (codes "journal"))) ≤ 4095 = omega arith in
-        rules_kept lists top_fits all generation_fits (one_lock lists up of (sym apart_is ∙ right keep apart e)),
+        rules_kept lists top_fits all generation_fits (one_lock lists up of (sym apart_is ∙ (and_parts keep apart e).1)),
     λ kept. both_true keep apart
         (keep_is ∙ all_hold (λ table. list_all (keeps (rows_in lists)) (lists table)) (all_keep lists up of kept))
         (apart_is ∙ locks_apart lists up of kept.one_lock),

@@ -40,22 +40,6 @@ chosen {P} {Q} false x y d k = (λ e. inr (refl, k.0 e), λ h. back h)
     back (inl h) = absurd cc
     back (inr h) = k.1 h.1
 
-pub left : (a b : Bool) → (a && b) ≡ true → a ≡ true
-left true b e = refl
-left false b e = e
-
-pub right : (a b : Bool) → (a && b) ≡ true → b ≡ true
-right true b e = e
-right false b e = absurd cc
-
-pub or_left : (a b : Bool) → a ≡ true → (a || b) ≡ true
-or_left true b e = refl
-or_left false b e = absurd cc
-
-pub or_right : (a b : Bool) → b ≡ true → (a || b) ≡ true
-or_right true b e = refl
-or_right false b e = e
-
 module _ {A B C : Type 0} (a b c : Bool) (p : Decides a A) (q : Decides b B) (r : Decides c C) where
   pub all3 : Decides (a && b && c) (A × B × C)
   all3 = Decides-like (a && b && c) (λ h. (h.0.0, h.0.1, h.1)) (λ h. ((h.0, h.1), h.2)) (Decides-and (a && b) c (Decides-and a b p q) r)

@@ -5,11 +5,12 @@ use Rattle.std.specs.Fmt.{digits, digits_onto, digit_glyph}
 use Rattle.std.specs.List.{list_all}
 use Rattle.std.proofs.lemmas.Bool.Decides.{nat_tests}
 use Rattle.std.proofs.lemmas.List.{append-nil}
+use Rattle.std.proofs.lemmas.Bool.{and_parts, and_from}
 use Rattle.depot_rows.specs.depot_path.Bytes.{same, is_digit}
 use Rattle.depot_rows.specs.depot_path.Digits.{number_of, is_digits}
 use Rattle.depot_rows.specs.depot_model.Numerals.{is_numeral}
 use Rattle.row_rules.specs.Tests.{has_leading_zero}
-use Rattle.row_rules.proofs.Deciding.{same_decides, le_true, left, right}
+use Rattle.row_rules.proofs.Deciding.{same_decides, le_true}
 
 -- the number that digits write behind those of another
 abbrev after : ℕ → List ℕ → ℕ
@@ -21,8 +22,8 @@ pub record IsDigit (d : ℕ) : Type 0 where
 
 digit_is : (d : ℕ) → is_digit d ≡ true → IsDigit d
 digit_is d e = record {
-  low = le_true 48 d (left (nat_le 48 d) (nat_le d 57) e);
-  high = le_true d 57 (right (nat_le 48 d) (nat_le d 57) e);
+  low = le_true 48 d (and_parts (nat_le 48 d) (nat_le d 57) e).0;
+  high = le_true d 57 (and_parts (nat_le 48 d) (nat_le d 57) e).1;
 }
 
 tens : (n d : ℕ) → IsDigit d → (n * 10 + (d - 48)) / 10 ≡ n
@@ -55,11 +56,11 @@ step k n d acc low is =
 behind : (k n : ℕ) (ds acc : List ℕ) → 0 < n → list_all is_digit ds ≡ true → digits_onto (k + length ds) 10 false (after n ds) acc ≡ digits_onto k 10 false n (ds ++ acc)
 behind k n [] acc low all = let same_k : k + 0 ≡ k = omega arith in ap (λ j. digits_onto j 10 false n acc) same_k
 behind k n (d ∷ ds) acc low all =
-    let is = digit_is d (left (is_digit d) (list_all is_digit ds) all) in
+    let is = digit_is d (and_parts (is_digit d) (list_all is_digit ds) all).0 in
     let next : k + suc (length ds) ≡ suc k + length ds = omega arith in
     let positive : 0 < n * 10 + (d - 48) = omega arith in
     ap (λ j. digits_onto j 10 false (after (n * 10 + (d - 48)) ds) acc) next
-    ∙ behind (suc k) (n * 10 + (d - 48)) ds acc positive (right (is_digit d) (list_all is_digit ds) all) ∙ step k n d (ds ++ acc) low is
+    ∙ behind (suc k) (n * 10 + (d - 48)) ds acc positive (and_parts (is_digit d) (list_all is_digit ds) all).1 ∙ step k n d (ds ++ acc) low is
 
 -- the first digit
 first : (k e : ℕ) (acc : List ℕ) → IsDigit e → digits_onto (suc k) 10 false (e - 48) acc ≡ e ∷ acc
@@ -116,7 +117,7 @@ other_number m n e = grind (arith, nat_tests)
 no_longer : (ds : List ℕ) → 1 ≤ length ds → list_all is_digit ds ≡ true → length (decimal (after 0 ds)) ≤ length ds
 no_longer [] low all = absurd (omega arith)
 no_longer (d ∷ ds) low all =
-    go (d == 48) refl (nat_le (length ds) 63) refl (nat_le 1 (length ds)) refl (λ more. no_longer ds more (right (is_digit d) (list_all is_digit ds) all))
+    go (d == 48) refl (nat_le (length ds) 63) refl (nat_le 1 (length ds)) refl (λ more. no_longer ds more (and_parts (is_digit d) (list_all is_digit ds) all).1)
   where
     go : (z : Bool) → (d == 48) ≡ z → (s : Bool) → nat_le (length ds) 63 ≡ s → (t : Bool) → nat_le 1 (length ds) ≡ t
         → (1 ≤ length ds → length (decimal (after 0 ds)) ≤ length ds) → length (decimal (after 0 (d ∷ ds))) ≤ suc (length ds)
@@ -127,10 +128,10 @@ no_longer (d ∷ ds) low all =
         let none = none_left ds (le_false 1 (length ds) g) in
         omega (arith, ap (λ n. length (decimal n)) (from_zero d ds (is_number d 48 e)), ap (λ l. length (decimal (after 0 l))) none, ap (λ l. length l) zero_is)
     go false e true f t g rest =
-        let is = digit_is d (left (is_digit d) (list_all is_digit ds) all) in
+        let is = digit_is d (and_parts (is_digit d) (list_all is_digit ds) all).0 in
         let apart = other_number d 48 e in
         let low_digit : 0 < d - 48 = omega (arith, is.low, apart) in
-        omega (arith, ap (λ l. length l) (canonical d ds is low_digit (right (is_digit d) (list_all is_digit ds) all) (le_true (length ds) 63 f)))
+        omega (arith, ap (λ l. length l) (canonical d ds is low_digit (and_parts (is_digit d) (list_all is_digit ds) all).1 (le_true (length ds) 63 f)))
     go false e false f t g rest = omega (arith, decimal_short (after 0 (d ∷ ds)), le_false (length ds) 63 f)
 
 -- ---- numerals
@@ -141,16 +142,13 @@ decides_true true false h k = sym (h refl)
 decides_true false true h k = k refl
 decides_true false false h k = refl
 
-both : (a b : Bool) → a ≡ true → b ≡ true → (a && b) ≡ true
-both a b e f = λ i. e i && f i
-
 true_le : (a b : ℕ) → a ≤ b → nat_le a b ≡ true
 true_le a b h = grind (arith, nat_tests)
 
 printed_is : (text : List ℕ) → is_digits text ≡ true → (nat_le (length text) 64 && not (has_leading_zero text)) ≡ true → decimal (number_of text) ≡ text
-printed_is [] e h = absurd (omega (arith, le_true 1 0 (left (nat_le 1 0) true e)))
+printed_is [] e h = absurd (omega (arith, le_true 1 0 (and_parts (nat_le 1 0) true e).0))
 printed_is (d ∷ []) e h =
-    let is = digit_is d (left (is_digit d) true (right (nat_le 1 1) (is_digit d && true) e)) in
+    let is = digit_is d (and_parts (is_digit d) true (and_parts (nat_le 1 1) (is_digit d && true) e).1).0 in
     go (d == 48) refl is
   where
     go : (z : Bool) → (d == 48) ≡ z → IsDigit d → decimal (after 0 (d ∷ [])) ≡ d ∷ []
@@ -160,30 +158,30 @@ printed_is (d ∷ []) e h =
         let low_digit : 0 < d - 48 = omega (arith, is.low, apart) in
         canonical d [] is low_digit refl (omega arith)
 printed_is (d ∷ b ∷ ds) e h =
-    let digits_are = right (nat_le 1 (length (d ∷ b ∷ ds))) (list_all is_digit (d ∷ b ∷ ds)) e in
-    let is = digit_is d (left (is_digit d) (list_all is_digit (b ∷ ds)) digits_are) in
-    let apart = other_number d 48 (no_zero (d == 48) (right (nat_le (length (d ∷ b ∷ ds)) 64) (not (d == 48)) h)) in
+    let digits_are = (and_parts (nat_le 1 (length (d ∷ b ∷ ds))) (list_all is_digit (d ∷ b ∷ ds)) e).1 in
+    let is = digit_is d (and_parts (is_digit d) (list_all is_digit (b ∷ ds)) digits_are).0 in
+    let apart = other_number d 48 (no_zero (d == 48) (and_parts (nat_le (length (d ∷ b ∷ ds)) 64) (not (d == 48)) h).1) in
     let low_digit : 0 < d - 48 = omega (arith, is.low, apart) in
-    let room = le_true (length (d ∷ b ∷ ds)) 64 (left (nat_le (length (d ∷ b ∷ ds)) 64) (not (d == 48)) h) in
-    canonical d (b ∷ ds) is low_digit (right (is_digit d) (list_all is_digit (b ∷ ds)) digits_are) (omega arith)
+    let room = le_true (length (d ∷ b ∷ ds)) 64 (and_parts (nat_le (length (d ∷ b ∷ ds)) 64) (not (d == 48)) h).0 in
+    canonical d (b ∷ ds) is low_digit (and_parts (is_digit d) (list_all is_digit (b ∷ ds)) digits_are).1 (omega arith)
   where
     no_zero : (z : Bool) → not z ≡ true → z ≡ false
     no_zero true f = absurd cc
     no_zero false f = refl
 
 is_printed : (text : List ℕ) → is_digits text ≡ true → decimal (number_of text) ≡ text → (nat_le (length text) 64 && not (has_leading_zero text)) ≡ true
-is_printed [] e h = absurd (omega (arith, le_true 1 0 (left (nat_le 1 0) true e)))
-is_printed (d ∷ []) e h = both (nat_le 1 64) true (true_le 1 64 (omega arith)) refl
+is_printed [] e h = absurd (omega (arith, le_true 1 0 (and_parts (nat_le 1 0) true e).0))
+is_printed (d ∷ []) e h = and_from (nat_le 1 64) true (true_le 1 64 (omega arith)) refl
 is_printed (d ∷ b ∷ ds) e h =
-    both (nat_le (length (d ∷ b ∷ ds)) 64) (not (d == 48))
+    and_from (nat_le (length (d ∷ b ∷ ds)) 64) (not (d == 48))
     (true_le (length (d ∷ b ∷ ds)) 64 (omega (arith, decimal_short (number_of (d ∷ b ∷ ds)), ap (λ l. length l) h)))
     (go (d == 48) refl)
   where
     go : (z : Bool) → (d == 48) ≡ z → not z ≡ true
     go false f = refl
     go true f =
-        let digits_are = right (nat_le 1 (length (d ∷ b ∷ ds))) (list_all is_digit (d ∷ b ∷ ds)) e in
-        let shorter = no_longer (b ∷ ds) (omega arith) (right (is_digit d) (list_all is_digit (b ∷ ds)) digits_are) in
+        let digits_are = (and_parts (nat_le 1 (length (d ∷ b ∷ ds))) (list_all is_digit (d ∷ b ∷ ds)) e).1 in
+        let shorter = no_longer (b ∷ ds) (omega arith) (and_parts (is_digit d) (list_all is_digit (b ∷ ds)) digits_are).1 in
         absurd (omega (arith, shorter, ap (λ n. length (decimal n)) (from_zero d (b ∷ ds) (is_number d 48 f)), ap (λ l. length l) h))
 
 pub numerals : (text : List ℕ) → is_numeral text ≡ (is_digits text && (nat_le (length text) 64 && not (has_leading_zero text)))

@@ -4,7 +4,7 @@ use Rattle.std.specs.Prelude.{◌&&◌, ◌||◌, ◌==◌, not, nat_le, nat_lt,
 use Rattle.std.specs.Fmt.{digits, digits_onto, digit_glyph}
 use Rattle.std.specs.List.{list_any, list_all}
 use Rattle.std.specs.Ordering.{is_gt}
-use Rattle.std.proofs.lemmas.Bool.{true≢false}
+use Rattle.std.proofs.lemmas.Bool.{true≢false, and_parts, and_from}
 use Rattle.std.proofs.lemmas.Bool.Decides.{Decides-eqb, nat_tests}
 use Rattle.std.proofs.lemmas.List.{append_cancel_right}
 use Rattle.depot_rows.specs.depot_path.Bytes.{same, is_digit}
@@ -25,7 +25,7 @@ use Rattle.depot_rows.specs.depot_model.Fixes.{fix_name}
 use Rattle.depot_rows.specs.depot_model.Rules.{Rows, IsRow, IsForm, IsFix, has_fix, is_on_fix, are_distinct, value_in, number_in, top_in}
 use Rattle.row_rules.specs.Stored.{seen}
 use Rattle.row_rules.specs.Fixing.{is_on_text, is_fix_of, fix_count, HaveFewFixes}
-use Rattle.row_rules.proofs.Deciding.{same_decides, le_true, true_le, left, right}
+use Rattle.row_rules.proofs.Deciding.{same_decides, le_true, true_le}
 use Rattle.row_rules.proofs.Found.{at_key, at_own, found_key, found_behind}
 use Rattle.row_rules.proofs.Joined.{rows_in}
 
@@ -38,9 +38,6 @@ plain_digit : (b : ℕ) → 48 ≤ b → is_plain b ≡ true
 unfolding is_plain
 plain_digit b low = grind (arith, nat_tests)
 
-both : (a b : Bool) → a ≡ true → b ≡ true → (a && b) ≡ true
-both a b e f = λ i. e i && f i
-
 glyph_plain : (d : ℕ) → is_plain (digit_glyph false d) ≡ true
 glyph_plain d = plain_digit (digit_glyph false d) (go (nat_lt d 10))
   where
@@ -51,7 +48,7 @@ glyph_plain d = plain_digit (digit_glyph false d) (go (nat_lt d 10))
 plain_onto : (k n : ℕ) (acc : List ℕ) → list_all is_plain acc ≡ true → list_all is_plain (digits_onto k 10 false n acc) ≡ true
 plain_onto zero n acc all = all
 plain_onto (suc k) n acc all =
-    let more : list_all is_plain (digit_glyph false (n % 10) ∷ acc) ≡ true = both (is_plain (digit_glyph false (n % 10))) (list_all is_plain acc) (glyph_plain (n % 10)) all in
+    let more : list_all is_plain (digit_glyph false (n % 10) ∷ acc) ≡ true = and_from (is_plain (digit_glyph false (n % 10))) (list_all is_plain acc) (glyph_plain (n % 10)) all in
     go (n / 10 == 0) more (plain_onto k (n / 10) (digit_glyph false (n % 10) ∷ acc) more)
   where
     go : (b : Bool) → list_all is_plain (digit_glyph false (n % 10) ∷ acc) ≡ true → list_all is_plain (digits_onto k 10 false (n / 10) (digit_glyph false (n % 10) ∷ acc)) ≡ true
@@ -65,19 +62,19 @@ plain_decimal n = plain_onto 64 n [] refl
 
 plain_numeral : (text : List ℕ) → is_numeral text ≡ true → list_all is_plain text ≡ true
 plain_numeral text e =
-    let digits_are : is_digits text ≡ true = left (is_digits text) (same (decimal (number_of text)) text) e in
-    go text (right (nat_le 1 (length text)) (list_all is_digit text) digits_are)
+    let digits_are : is_digits text ≡ true = (and_parts (is_digits text) (same (decimal (number_of text)) text) e).0 in
+    go text (and_parts (nat_le 1 (length text)) (list_all is_digit text) digits_are).1
   where
     go : (ds : List ℕ) → list_all is_digit ds ≡ true → list_all is_plain ds ≡ true
     go [] all = refl
     go (d ∷ ds) all =
-        both (is_plain d) (list_all is_plain ds) (plain_digit d (le_true 48 d (left (nat_le 48 d) (nat_le d 57) (left (is_digit d) (list_all is_digit ds) all))))
-        (go ds (right (is_digit d) (list_all is_digit ds) all))
+        and_from (is_plain d) (list_all is_plain ds) (plain_digit d (le_true 48 d (and_parts (nat_le 48 d) (nat_le d 57) (and_parts (is_digit d) (list_all is_digit ds) all).0).0))
+        (go ds (and_parts (is_digit d) (list_all is_digit ds) all).1)
 
 no_space : (b x : List ℕ) → list_all is_plain (b ++ 0x20 ∷ x) ≡ true → ⊥
 unfolding is_plain
 no_space [] x e = absurd cc
-no_space (c ∷ b) x e = no_space b x (right (is_plain c) (list_all is_plain (b ++ 0x20 ∷ x)) e)
+no_space (c ∷ b) x e = no_space b x (and_parts (is_plain c) (list_all is_plain (b ++ 0x20 ∷ x)) e).1
 
 -- the last word
 last_word : (a b x y : List ℕ) → list_all is_plain x ≡ true → list_all is_plain y ≡ true → a ++ 0x20 ∷ x ≡ b ++ 0x20 ∷ y → x ≡ y
@@ -127,8 +124,8 @@ module _ (n m : ℕ) where
   unfolding elsewhere found_fix
   fewer row rows [] apart all = omega arith
   fewer row rows (job ∷ jobs) apart all =
-      go (is_at (fix_key job n) row) refl (left (found_fix (row ∷ rows) job) (list_all (found_fix (row ∷ rows)) jobs) all)
-      (fewer row rows jobs (right (not (list_any (same job) jobs)) (are_distinct jobs) apart) (right (found_fix (row ∷ rows) job) (list_all (found_fix (row ∷ rows)) jobs) all))
+      go (is_at (fix_key job n) row) refl (and_parts (found_fix (row ∷ rows) job) (list_all (found_fix (row ∷ rows)) jobs) all).0
+      (fewer row rows jobs (and_parts (not (list_any (same job) jobs)) (are_distinct jobs) apart).1 (and_parts (found_fix (row ∷ rows) job) (list_all (found_fix (row ∷ rows)) jobs) all).1)
     where
       not_any : (b : Bool) → not b ≡ true → b ≡ false
       not_any true e = absurd cc
@@ -141,7 +138,7 @@ module _ (n m : ℕ) where
       go false e f rest = omega arith
       go true e f rest =
           let one : ◌≡◌ {A = ℕ} (if is_fix_of m row then 1 else 0) 1 = ap (λ (t : Bool). cond {A = ℕ} t 1 0) f in
-          let all_stay = none_same row job jobs e (not_any (list_any (same job) jobs) (left (not (list_any (same job) jobs)) (are_distinct jobs) apart)) in
+          let all_stay = none_same row job jobs e (not_any (list_any (same job) jobs) (and_parts (not (list_any (same job) jobs)) (are_distinct jobs) apart).0) in
           omega (arith, one, ap (λ (l : List (List ℕ)). length l) all_stay)
 
   -- what is kept stays distinct, and is found behind
@@ -158,8 +155,8 @@ module _ (n m : ℕ) where
   distinct_kept : (test : List ℕ → Bool) (jobs : List (List ℕ)) → are_distinct jobs ≡ true → are_distinct (filter test jobs) ≡ true
   distinct_kept test [] e = refl
   distinct_kept test (job ∷ jobs) e =
-      go (test job) (any_kept test job jobs (not_any (list_any (same job) jobs) (left (not (list_any (same job) jobs)) (are_distinct jobs) e)))
-      (distinct_kept test jobs (right (not (list_any (same job) jobs)) (are_distinct jobs) e))
+      go (test job) (any_kept test job jobs (not_any (list_any (same job) jobs) (and_parts (not (list_any (same job) jobs)) (are_distinct jobs) e).0))
+      (distinct_kept test jobs (and_parts (not (list_any (same job) jobs)) (are_distinct jobs) e).1)
     where
       not_any : (b : Bool) → not b ≡ true → b ≡ false
       not_any true f = absurd cc
@@ -173,8 +170,8 @@ module _ (n m : ℕ) where
   unfolding elsewhere found_fix
   found_kept row rows [] all = refl
   found_kept row rows (job ∷ jobs) all =
-      go (is_at (fix_key job n) row) (left (found_fix (row ∷ rows) job) (list_all (found_fix (row ∷ rows)) jobs) all)
-      (found_kept row rows jobs (right (found_fix (row ∷ rows) job) (list_all (found_fix (row ∷ rows)) jobs) all))
+      go (is_at (fix_key job n) row) (and_parts (found_fix (row ∷ rows) job) (list_all (found_fix (row ∷ rows)) jobs) all).0
+      (found_kept row rows jobs (and_parts (found_fix (row ∷ rows) job) (list_all (found_fix (row ∷ rows)) jobs) all).1)
     where
       go : (b : Bool) → elim (cond b (Some row) (row_at (fix_key job n) rows)) as (λ _. Bool) [ None ↦ false | Some r ↦ is_fix_of m r ] ≡ true
           → list_all (found_fix rows) (filter (elsewhere row) jobs) ≡ true
@@ -207,7 +204,7 @@ fix_form rows r form e = go form
     go (inr (inr (inr (inr h)))) = h.1
 
 numeral_is : (text : List ℕ) → is_numeral text ≡ true → decimal (number_of text) ≡ text
-numeral_is text e = (same_decides (decimal (number_of text)) text).0 (right (is_digits text) (same (decimal (number_of text)) text) e)
+numeral_is text e = (same_decides (decimal (number_of text)) text).0 (and_parts (is_digits text) (same (decimal (number_of text)) text) e).1
 
 module _ (lists : TableId → List Record) (up : (table : TableId) → IsRising (lists table))
     (each : (key : Key) → IfSome (rows_in lists key) (IsRow (rows_in lists))) (top_fits : top_in (rows_in lists) ≤ 2147483647) where
@@ -234,14 +231,14 @@ module _ (lists : TableId → List Record) (up : (table : TableId) → IsRising 
           let own : row_at (keys.Domain r.kind r.name) forms ≡ Some (records.Domain r) = ap (λ q. row_at q forms) k ∙ e in
           let fix = fix_form (rows_in lists) r (form_row r own) kind in
           let change : List ℕ = value_in FixShape (codes "Change") r.form in
-          let numeral = left (is_numeral change) (nat_le (number_of change) (top_in (rows_in lists))) fix.change in
-          let low = le_true (number_of change) (top_in (rows_in lists)) (right (is_numeral change) (nat_le (number_of change) (top_in (rows_in lists))) fix.change) in
+          let numeral = (and_parts (is_numeral change) (nat_le (number_of change) (top_in (rows_in lists))) fix.change).0 in
+          let low = le_true (number_of change) (top_in (rows_in lists)) (and_parts (is_numeral change) (nat_le (number_of change) (top_in (rows_in lists))) fix.change).1 in
           let is : change ≡ decimal n =
           last_word (value_in FixShape (codes "Job") r.form) job change (decimal n) (plain_numeral change numeral) (plain_decimal n) (sym fix.named ∙ name) in
           let room : number_of change ≤ 4294967295 = omega arith in
           let number : number_of change ≡ number_of (decimal n) = ap number_of is in
           let on_is : is_on_text r.form ≡ true =
-          both (same (value_in FixShape (codes "State") r.form) (codes "on")) (nat_le (number_of change) 4294967295) on (true_le (number_of change) 4294967295 room) in
+          and_from (same (value_in FixShape (codes "State") r.form) (codes "on")) (nat_le (number_of change) 4294967295) on (true_le (number_of change) 4294967295 room) in
           let counted : Option ℕ → Bool = λ o. elim o as (λ _. Bool) [ None ↦ false | Some x ↦ x == number_of (decimal n) ] in
           ap (λ (b : Bool). counted (if b then (if is_on_text r.form then Some (number_of change) else None) else None)) ((same_decides r.kind (codes "fix")).1 kind)
           ∙ ap (λ (b : Bool). counted (if b then Some (number_of change) else None)) on_is
@@ -269,8 +266,8 @@ module _ (lists : TableId → List Record) (up : (table : TableId) → IsRising 
   all_found : (n : ℕ) (jobs : List (List ℕ)) → list_all (has_fix (rows_in lists) n) jobs ≡ true → list_all (found_fix n (number_of (decimal n)) forms) jobs ≡ true
   all_found n [] all = refl
   all_found n (job ∷ jobs) all =
-      let here = one_fix n job (left (has_fix (rows_in lists) n job) (list_all (has_fix (rows_in lists) n) jobs) all) in
-      let rest = all_found n jobs (right (has_fix (rows_in lists) n job) (list_all (has_fix (rows_in lists) n) jobs) all) in
+      let here = one_fix n job (and_parts (has_fix (rows_in lists) n job) (list_all (has_fix (rows_in lists) n) jobs) all).0 in
+      let rest = all_found n jobs (and_parts (has_fix (rows_in lists) n job) (list_all (has_fix (rows_in lists) n) jobs) all).1 in
       λ i. here i && rest i
 
   pub fixes_fit : HaveFewFixes forms → (n : ℕ) (jobs : List (List ℕ)) → IsTrue (are_distinct jobs) → IsTrue (list_all (has_fix (rows_in lists) n) jobs) → length jobs ≤ 100
@@ -314,9 +311,9 @@ module _ (lists : TableId → List Record) (up : (table : TableId) → IsRising 
             let change : List ℕ = value_in FixShape (codes "Change") r.form in
             let job : List ℕ = value_in FixShape (codes "Job") r.form in
             let kind : r.kind ≡ codes "fix" = (same_decides r.kind (codes "fix")).0 h in
-            let on = left (same (value_in FixShape (codes "State") r.form) (codes "on")) (nat_le (number_of change) 4294967295) f in
+            let on = (and_parts (same (value_in FixShape (codes "State") r.form) (codes "on")) (nat_le (number_of change) 4294967295) f).0 in
             let fix = fix_form (rows_in lists) r (form_row r e) kind in
-            let numeral = left (is_numeral change) (nat_le (number_of change) (top_in (rows_in lists))) fix.change in
+            let numeral = (and_parts (is_numeral change) (nat_le (number_of change) (top_in (rows_in lists))) fix.change).0 in
             let number : number_of change ≡ n = (Decides-eqb (number_of change) n).0 g in
             let digits_are : change ≡ decimal n = sym (numeral_is change numeral) ∙ ap decimal number in
             let name : r.name ≡ fix_name job n = fix.named ∙ ap (λ (t : List ℕ). job ++ 0x20 ∷ t) digits_are in

@@ -3,7 +3,7 @@ use Rattle.std.proofs.Common.{◌≡◌, ◌⊎◌, ◌≤◌, ℕ, Bool, true, 
 use Rattle.std.specs.Prelude.{◌&&◌, ◌||◌, ◌==◌, not, nat_le, nat_lt, length, IsTrue, IsFalse, IsSome, IsSomeAnd, is_some, is_ok, codes, if◌then◌else◌}
 use Rattle.std.specs.Bool.{Decides}
 use Rattle.std.specs.List.{list_all}
-use Rattle.std.proofs.lemmas.Bool.{true≢false}
+use Rattle.std.proofs.lemmas.Bool.{true≢false, and_parts}
 use Rattle.std.proofs.lemmas.Bool.Decides.{Decides-and, Decides-or, Decides-like, Decides-eqb}
 use Rattle.depot_rows.specs.depot_path.Bytes.{same}
 use Rattle.depot_rows.specs.depot_path.Name.{is_name}
@@ -24,7 +24,7 @@ use Rattle.depot_rows.specs.depot_model.Values.{value_of as form_value, first_or
 use Rattle.depot_rows.specs.depot_model.Rules.{Rows, IsRow, IsForm, IsShelf, IsJob, IsFix, HasRev, IsBase, IsLiveRow, IsPending, reads_as, lines_in, is_printed_path, is_one_of, is_job_name, is_content_text, top_in}
 use Rattle.depot_rows.specs.depot_model.Types.{is_printed_type}
 use Rattle.row_rules.specs.Tests.{has_rev, with_form, is_client_text, is_label_text, is_job_text, is_fix_text, is_shelf_text, is_client_form, is_label_form, is_job_form, is_fix_form, is_shelf_form, is_kept_form, is_form, job_words, fix_words, shelf_words, shelf_action_words, spaced, is_numeral_up_to, has_field, field_number, has_small_rev, is_live_row, has_its_source, has_its_fields, has_its_content, has_its_numbers, is_pending}
-use Rattle.row_rules.proofs.Deciding.{itself, same_decides, le_decides, never, implies, right, all3, all4, all5, all6, all9}
+use Rattle.row_rules.proofs.Deciding.{itself, same_decides, le_decides, never, implies, all3, all4, all5, all6, all9}
 use Rattle.row_rules.proofs.Rows.{pending_decides}
 
 -- ---- a form that a text reads as
@@ -135,7 +135,7 @@ module _ (rows : Rows) where
   module _ (small : (path : List ℕ) (n : ℕ) → HasRev rows path n → n ≤ 4294967295) where
     small_decides : (path : List ℕ) (n : ℕ) → Decides (has_small_rev rows path n) (HasRev rows path n)
     small_decides path n = (
-      λ e. right (nat_le n 4294967295) (has_rev rows path n) e,
+      λ e. (and_parts (nat_le n 4294967295) (has_rev rows path n) e).1,
       λ h. (Decides-and (nat_le n 4294967295) (has_rev rows path n) (le_decides n 4294967295) (itself (has_rev rows path n))).1 (small path n h, h),
     )
 

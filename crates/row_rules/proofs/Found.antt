@@ -5,7 +5,7 @@ use Rattle.std.specs.List.{list_all}
 use Rattle.std.specs.Ordering.{is_eq}
 use Rattle.std.specs.declared.cmp.Ordering.{Ordering}
 use Rattle.std.specs.declared.cmp.Ordering.TheVariants.{Less, Equal, Greater}
-use Rattle.std.proofs.lemmas.Bool.{true≢false}
+use Rattle.std.proofs.lemmas.Bool.{true≢false, and_parts}
 use Rattle.depot_rows.specs.db_records.declared.key.Key.{Key}
 use Rattle.depot_rows.specs.db_records.declared.record.Record.{Record}
 use Rattle.depot_rows.specs.db_records.declared.record.Record.TheVariants as records
@@ -16,7 +16,6 @@ use Rattle.depot_rows.proofs.db_records.Order.{keys_equal}
 use Rattle.depot_rows.specs.table_store.Rows.{is_at, row_at, AllAbove, IsRising, AllOfTable}
 use Rattle.row_order.proofs.Order.{row_at-above}
 use Rattle.depot_rows.specs.depot_model.Records.{unplaced}
-use Rattle.row_rules.proofs.Deciding.{left, right}
 
 pub eq_is : (o : Ordering) → is_eq o ≡ true → o ≡ Equal
 eq_is Less e = absurd cc
@@ -41,10 +40,10 @@ found_key key (x ∷ rows) row e = go (is_at key x) refl e (λ f. found_key key 
 -- what holds of all rows holds of what is found
 pub found_passes : (test : Record → Bool) (key : Key) (rows : List Record) (row : Record) → list_all test rows ≡ true → row_at key rows ≡ Some row → test row ≡ true
 found_passes test key [] row all e = absurd cc
-found_passes test key (x ∷ rows) row all e = go (is_at key x) e (λ f. found_passes test key rows row (right (test x) (list_all test rows) all) f)
+found_passes test key (x ∷ rows) row all e = go (is_at key x) e (λ f. found_passes test key rows row (and_parts (test x) (list_all test rows) all).1 f)
   where
     go : (b : Bool) → cond b (Some x) (row_at key rows) ≡ Some row → (row_at key rows ≡ Some row → test row ≡ true) → test row ≡ true
-    go true f rest = let same : x ≡ row = cc in ap test (sym same) ∙ left (test x) (list_all test rows) all
+    go true f rest = let same : x ≡ row = cc in ap test (sym same) ∙ (and_parts (test x) (list_all test rows) all).0
     go false f rest = rest f
 
 -- a row is found behind another

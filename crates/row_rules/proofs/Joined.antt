@@ -4,6 +4,7 @@ use Rattle.std.specs.Prelude.{◌&&◌, ◌||◌, nat_le, nat_lt, IsTrue, IsSome
 use Rattle.std.specs.Bool.{Decides}
 use Rattle.std.specs.List.{list_all}
 use Rattle.std.proofs.lemmas.Bool.Decides.{Decides-and, Decides-like, nat_tests}
+use Rattle.std.proofs.lemmas.Bool.{and_parts, or_right, and_from}
 use Rattle.depot_rows.specs.db_records.declared.key.Key.{Key}
 use Rattle.depot_rows.specs.db_records.declared.key.Key.TheVariants as keys
 use Rattle.depot_rows.specs.db_records.declared.record.Record.{Record}
@@ -21,7 +22,7 @@ use Rattle.depot_rows.specs.depot_model.Rules.{Rows, IsRow, HasRev, change_of, v
 use Rattle.row_rules.specs.Kept.{KeepRowRules}
 use Rattle.row_rules.specs.Stored.{seen}
 use Rattle.row_rules.specs.Tests.{keeps, is_line, is_change, is_revision, follows_line, follows_revision, has_rev}
-use Rattle.row_rules.proofs.Deciding.{itself, le_true, le_decides, left, right, or_right}
+use Rattle.row_rules.proofs.Deciding.{itself, le_true, le_decides}
 use Rattle.row_rules.proofs.Rows.{counter_decides, group_decides, line_decides, have_decides, labelled_decides, integration_decides, resolve_decides, opened_decides, change_decides, revision_decides}
 use Rattle.row_rules.proofs.FormRows.{form_row_decides}
 use Rattle.row_rules.proofs.Found.{found_key, found_passes, all_from_found}
@@ -131,12 +132,9 @@ unpacked rows path n change e =
     let P : ℕ → Type 0 = λ k. (has_rev rows path k && nat_lt (change_of (rows (keys.Rev path k))) change) ≡ true in
     let rest : P (suc (suc n) - 1) = either (nat_le (suc (suc n)) 1) _ (big n) e in
     let here : P (suc n) = subst P (less_one n) rest in (
-      left (has_rev rows path (suc n)) (nat_lt (change_of (rows (keys.Rev path (suc n)))) change) here,
-      lt_true (change_of (rows (keys.Rev path (suc n)))) change (right (has_rev rows path (suc n)) (nat_lt (change_of (rows (keys.Rev path (suc n)))) change) here),
+      (and_parts (has_rev rows path (suc n)) (nat_lt (change_of (rows (keys.Rev path (suc n)))) change) here).0,
+      lt_true (change_of (rows (keys.Rev path (suc n)))) change (and_parts (has_rev rows path (suc n)) (nat_lt (change_of (rows (keys.Rev path (suc n)))) change) here).1,
     )
-
-both : (a b : Bool) → a ≡ true → b ≡ true → (a && b) ≡ true
-both a b e f = λ i. e i && f i
 
 packed : (rows : Rows) (path : List ℕ) (n change : ℕ)
     → ((k : ℕ) → n ≡ suc (suc k) → HasRev rows path (suc k) × (change_of (rows (keys.Rev path (suc k))) < change)) → follow_at rows path n change ≡ true
@@ -146,7 +144,7 @@ packed rows path (suc (suc k)) change h =
     let P : ℕ → Type 0 = λ j. (has_rev rows path j && nat_lt (change_of (rows (keys.Rev path j))) change) ≡ true in
     let said = h k refl in
     let here : P (suc k) =
-    both (has_rev rows path (suc k)) (nat_lt (change_of (rows (keys.Rev path (suc k)))) change) said.0
+    and_from (has_rev rows path (suc k)) (nat_lt (change_of (rows (keys.Rev path (suc k)))) change) said.0
     (true_lt (change_of (rows (keys.Rev path (suc k)))) change said.1) in
     or_right (nat_le (suc (suc k)) 1) _ (subst P (sym (less_one k)) here)
 
@@ -283,7 +281,7 @@ module _ (lists : TableId → List Record) where
     next_of path n has =
         let found = rev_row path (suc (suc n)) has in
         let r : RevRecord = found.0 in
-        let follows = right (is_revision rows_in r) (follows_revision rows_in r) (rev_passes path (suc (suc n)) r found.3) in
+        let follows = (and_parts (is_revision rows_in r) (follows_revision rows_in r) (rev_passes path (suc (suc n)) r found.3)).1 in
         let P : List ℕ → Type 0 = λ p. follow_at rows_in p r.rev r.change ≡ true in
         let Q : ℕ → Type 0 = λ m. follow_at rows_in path m r.change ≡ true in
         let said = unpacked rows_in path n r.change (subst Q found.2 (subst P found.1 follows)) in
@@ -298,21 +296,21 @@ module _ (lists : TableId → List Record) where
       lines_run = λ n has.
           let found = line_row (suc (suc n)) has in
           let r : ProtectRecord = found.0 in
-          let follows = right (is_line r) (follows_line rows_in r) (passes (keys.Protect (suc (suc n))) (records.Protect r) found.2) in
+          let follows = (and_parts (is_line r) (follows_line rows_in r) (passes (keys.Protect (suc (suc n))) (records.Protect r) found.2)).1 in
           let Q : ℕ → Type 0 = λ m. line_at rows_in m ≡ true in
           line_unpacked rows_in n (subst Q found.1 follows);
       top_is = λ n has.
           let found = change_row n has in
           let r : ChangeRecord = found.0 in
           let Q : ℕ → Type 0 = λ m. m ≤ top_in rows_in in
-          subst Q found.1 (le_true r.change (top_in rows_in) (right (is_change r) (nat_le r.change (top_in rows_in)) (passes (keys.Change n) (records.Change r) found.2)));
+          subst Q found.1 (le_true r.change (top_in rows_in) (and_parts (is_change r) (nat_le r.change (top_in rows_in)) (passes (keys.Change n) (records.Change r) found.2)).1);
     }
 
     revs_keep : (path : List ℕ) (n : ℕ) → (has : HasRev rows_in path n) → IsRow rows_in (unplaced (records.Rev (rev_row path n has).0))
     revs_keep path n has =
         let found = rev_row path n has in
         let r : RevRecord = found.0 in
-        (revision_decides rows_in r).0 (left (is_revision rows_in r) (follows_revision rows_in r) (rev_passes path n r found.3))
+        (revision_decides rows_in r).0 (and_parts (is_revision rows_in r) (follows_revision rows_in r) (rev_passes path n r found.3)).0
 
     small : (path : List ℕ) (n : ℕ) → HasRev rows_in path n → n ≤ 4294967295
     small = small_revisions rows_in neighbours (bounded revs_keep neighbours.top_is top_fits)

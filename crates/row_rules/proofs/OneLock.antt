@@ -6,7 +6,7 @@ use Rattle.std.specs.Ordering.{is_eq, is_lt, is_gt, nat_cmp, ordering_then, orde
 use Rattle.std.specs.Cmp.Lexicographic.{slice_cmp, nat_list_cmp_total, texts_ties}
 use Rattle.std.specs.declared.cmp.Ordering.{Ordering}
 use Rattle.std.specs.declared.cmp.Ordering.TheVariants.{Less, Equal, Greater}
-use Rattle.std.proofs.lemmas.Bool.{true≢false}
+use Rattle.std.proofs.lemmas.Bool.{true≢false, and_parts}
 use Rattle.std.proofs.lemmas.Bool.Decides.{Decides-eqb}
 use Rattle.depot_rows.specs.depot_path.Bytes.{same}
 use Rattle.depot_rows.specs.db_records.declared.key.Key.{Key}
@@ -22,7 +22,7 @@ use Rattle.depot_rows.specs.table_store.Rows.{is_at, row_at, AllAbove, IsRising,
 use Rattle.depot_rows.specs.depot_model.Rules.{lock_of}
 use Rattle.row_rules.specs.Stored.{seen}
 use Rattle.row_rules.specs.Tests.{is_lock, path_in, is_again, locked_last, are_apart}
-use Rattle.row_rules.proofs.Deciding.{same_decides, left, right}
+use Rattle.row_rules.proofs.Deciding.{same_decides}
 use Rattle.row_rules.proofs.Found.{at_own, found_key, found_passes, found_behind, of_table}
 use Rattle.row_rules.proofs.Joined.{OneLock, rows_in}
 
@@ -120,9 +120,9 @@ free_after : (path : List ℕ) (rows : List Record) → PathsRise rows → NoneB
 unfolding PathsRise NoneBefore
 free_after path [] rise none e = refl
 free_after path (row ∷ rows) rise none e =
-    let here : not (is_lock row && same (path_in row) path) ≡ true = left (not (is_again (Some path) row)) (are_apart (locked_last (Some path) row) rows) e in
+    let here : not (is_lock row && same (path_in row) path) ≡ true = (and_parts (not (is_again (Some path) row)) (are_apart (locked_last (Some path) row) rows) e).0 in
     let rest : list_all (is_free path) rows ≡ true =
-    go (is_lock row) refl here (right (not (is_again (Some path) row)) (are_apart (locked_last (Some path) row) rows) e) (λ f. free_after path rows rise.1 none.1 f) in
+    go (is_lock row) refl here (and_parts (not (is_again (Some path) row)) (are_apart (locked_last (Some path) row) rows) e).1 (λ f. free_after path rows rise.1 none.1 f) in
     λ i. here i && rest i
   where
     go : (l : Bool) → is_lock row ≡ l → not (l && same (path_in row) path) ≡ true → are_apart (if l then Some (path_in row) else Some path) rows ≡ true
@@ -141,7 +141,7 @@ all_apart : (last : Option (List ℕ)) (rows : List Record) → PathsRise rows �
 unfolding AllApart PathsRise
 all_apart last [] rise e = tt
 all_apart last (row ∷ rows) rise e =
-    let rest : are_apart (locked_last last row) rows ≡ true = right (not (is_again last row)) (are_apart (locked_last last row) rows) e in (
+    let rest : are_apart (locked_last last row) rows ≡ true = (and_parts (not (is_again last row)) (are_apart (locked_last last row) rows) e).1 in (
       λ l. free_after (path_in row) rows rise.1 rise.0 (ap (λ b. are_apart (if b then Some (path_in row) else last) rows) (sym l) ∙ rest),
       all_apart (locked_last last row) rows rise.1 rest,
     )
@@ -267,7 +267,7 @@ module _ (lists : TableId → List Record) (up : (table : TableId) → IsRising 
         go false e = refl
         go true e =
             let x : Record = behind.0 in
-            let locks : Locks path row = (left (is_lock row) (same (path_in row) path) e, (same_decides (path_in row) path).0 (right (is_lock row) (same (path_in row) path) e)) in
+            let locks : Locks path row = ((and_parts (is_lock row) (same (path_in row) path) e).0, (same_decides (path_in row) path).0 (and_parts (is_lock row) (same (path_in row) path) e).1) in
             absurd (not_own row x behind.3.0
             (same_lock path x row (of_found (key_of x) x behind.1) (of_found (key_of row) row here) behind.1 here behind.2 locks))
 

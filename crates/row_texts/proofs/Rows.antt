@@ -2,6 +2,7 @@
 use Rattle.std.proofs.Common.{◌≡◌, ◌≤◌, ℕ, zero, suc, Bool, true, false, List, [], Option, Some, None, refl, ap, subst, inl, inr, arith}
 use Rattle.std.proofs.lemmas.Bool.Decides.{nat_tests}
 use Rattle.std.specs.Prelude.{◌&&◌, nat_le, not, IfSome, is_some}
+use Rattle.std.proofs.lemmas.Bool.{and_parts}
 use Rattle.depot_rows.specs.db_records.Record.{key_of}
 use Rattle.depot_rows.specs.db_records.declared.record.Record.{Record}
 use Rattle.depot_rows.specs.db_records.declared.record.Record.TheVariants as rows
@@ -39,21 +40,17 @@ low n e = grind (arith, nat_tests)
 count : (n : ℕ) → is_count n ≡ true → (0 ≤ n) × (n ≤ largest_count)
 count n e = (omega arith, low n e)
 
-two : (a b : Bool) → (a && b) ≡ true → (a ≡ true) × (b ≡ true)
-two true b e = (refl, e)
-two false b e = absurd cc
-
 -- ---- rows
 
 module _ (r : WorkingRecord) (counted : is_counted (rows.Working r) ≡ true) where
   four : ((is_count r.base && is_count r.change && is_count r.lock) ≡ true) × (is_count r.source_rev ≡ true)
-  four = two (is_count r.base && is_count r.change && is_count r.lock) (is_count r.source_rev) counted
+  four = and_parts (is_count r.base && is_count r.change && is_count r.lock) (is_count r.source_rev) counted
 
   three : ((is_count r.base && is_count r.change) ≡ true) × (is_count r.lock ≡ true)
-  three = two (is_count r.base && is_count r.change) (is_count r.lock) four.0
+  three = and_parts (is_count r.base && is_count r.change) (is_count r.lock) four.0
 
   pair : (is_count r.base ≡ true) × (is_count r.change ≡ true)
-  pair = two (is_count r.base) (is_count r.change) three.0
+  pair = and_parts (is_count r.base) (is_count r.change) three.0
 
   working_fits : (b : Bool) → is_move r.action ≡ b → AllFit (kinds_of (working_parts b r).0) (working_parts b r).1
   working_fits true e = (
@@ -72,10 +69,10 @@ module _ (r : RevRecord) (typed : (r.length ≤ largest_wide) × (r.at ≤ large
 
 integrated_fits : (r : IntegedRecord) → is_counted (rows.Integed r) ≡ true → IsRecord (rows.Integed r)
 integrated_fits r counted =
-    let all = two (is_count r.start_from && is_count r.end_from && is_count r.start_to && is_count r.end_to) (is_count r.change) counted in
-    let ends = two (is_count r.start_from && is_count r.end_from && is_count r.start_to) (is_count r.end_to) all.0 in
-    let starts = two (is_count r.start_from && is_count r.end_from) (is_count r.start_to) ends.0 in
-    let from = two (is_count r.start_from) (is_count r.end_from) starts.0 in (
+    let all = and_parts (is_count r.start_from && is_count r.end_from && is_count r.start_to && is_count r.end_to) (is_count r.change) counted in
+    let ends = and_parts (is_count r.start_from && is_count r.end_from && is_count r.start_to) (is_count r.end_to) all.0 in
+    let starts = and_parts (is_count r.start_from && is_count r.end_from) (is_count r.start_to) ends.0 in
+    let from = and_parts (is_count r.start_from) (is_count r.end_from) starts.0 in (
       (
         refl,
         (
@@ -102,12 +99,12 @@ module _ (d : List Deed) (sound : IsSound d) where
   row_fits (rows.Label r) e h typed counted = ((refl, (refl, (count r.rev counted, tt))), tt)
   row_fits (rows.Integed r) e h typed counted = integrated_fits r counted
   row_fits (rows.Resolve r) e h typed counted =
-      let both = two (is_count r.first) (is_count r.last) counted in
+      let both = and_parts (is_count r.first) (is_count r.last) counted in
       ((refl, (refl, (refl, (count r.first both.0, (count r.last both.1, (refl, tt)))))), tt)
   row_fits (rows.Working r) e h typed counted = (working_fits r counted (is_move r.action) refl, no_other r.action r.moved h.7)
   row_fits (rows.Change r) e h typed counted = ((count r.change counted, (refl, (refl, (refl, ((omega arith, typed), (refl, tt)))))), tt)
   row_fits (rows.Rev r) e h typed counted =
-      let both = two (is_count r.rev) (is_count r.change) counted in
+      let both = and_parts (is_count r.rev) (is_count r.change) counted in
       (rev_fits r typed both.0 both.1 (is_move r.action) refl, no_other r.action r.moved h.5)
 
   pub row_has_text : (row : Record) → record_of d (key_of row) ≡ Some (unplaced row) → IsOf64Bits row → is_counted row ≡ true → IsRecord row

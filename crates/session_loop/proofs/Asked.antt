@@ -3,6 +3,7 @@ use Rattle.std.proofs.Common.{◌≡◌, refl, sym, subst, ℕ, Bool, true, fals
 use Rattle.std.specs.Prelude.{◌&&◌, map, is_some}
 use Rattle.std.specs.List.{list_all}
 use Rattle.std.proofs.lemmas.List.Elements.{All-nil, All-cons}
+use Rattle.std.proofs.lemmas.Bool.{and_parts}
 use Rattle.indexmap.specs.IndexMap.{insert_entry, shift_remove_entry}
 use Rattle.depot_model.specs.depot_path.Bytes.{same}
 use Rattle.depot_model.specs.Contents.{content_of}
@@ -29,14 +30,6 @@ IsAskedWell asked = AreProper asked.command asked.contents
 abbrev are_short : List (List ℕ × List ℕ) → Bool
 are_short contents = list_all is_short (map content_of contents)
 
-left_true : (a b : Bool) → (a && b) ≡ true → a ≡ true
-left_true true b e = refl
-left_true false b e = absurd cc
-
-right_true : (a b : Bool) → (a && b) ≡ true → b ≡ true
-right_true true b e = e
-right_true false b e = absurd cc
-
 taken_short : (takes : Bool) (contents : List (List ℕ × List ℕ)) → are_short contents ≡ true → list_all is_short (taken_contents takes contents) ≡ true
 taken_short true contents all = all
 taken_short false contents all = refl
@@ -48,8 +41,8 @@ entries_ask : (contents : List (List ℕ × List ℕ)) (entries : List Entry) �
 entries_ask contents [] short all = All-nil IsAskedWell
 entries_ask contents (Put content ∷ entries) short all =
     entries_ask (insert_entry same contents content.path content.bytes) entries
-    (all_inserted is_short contents content.path content.bytes (left_true (has_short_content (Put content)) (list_all has_short_content entries) all) short)
-    (right_true (has_short_content (Put content)) (list_all has_short_content entries) all)
+    (all_inserted is_short contents content.path content.bytes (and_parts (has_short_content (Put content)) (list_all has_short_content entries) all).0 short)
+    (and_parts (has_short_content (Put content)) (list_all has_short_content entries) all).1
 entries_ask contents (Clear path ∷ entries) short all = entries_ask (shift_remove_entry (same path) contents) entries (all_removed is_short contents path short) all
 entries_ask contents (Asks item ∷ entries) short all =
     All-cons IsAskedWell (asked_by contents item) (asked_from contents entries)

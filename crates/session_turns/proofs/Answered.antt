@@ -2,7 +2,7 @@
 use Rattle.std.proofs.Common.{◌≡◌, ℕ, zero, suc, ◌+◌, ◌<◌, Bool, true, false, cond, List, [], ◌∷◌, length, map, Option, Some, None, refl, sym, ap, ◌∙◌, arith}
 use Rattle.std.specs.Prelude.{All, filter, nat_lt, slice_get, option_map}
 use Rattle.std.specs.List.{range_with_len}
-use Rattle.std.proofs.lemmas.Bool.{ltb-false}
+use Rattle.std.proofs.lemmas.Bool.{ltb-false, or_parts}
 use Rattle.std.proofs.lemmas.List.Elements.{recursion_from_All}
 use Rattle.std.proofs.lemmas.List.FromFn.{get_or-range_with_len, length-range_with_len}
 use Rattle.std.proofs.lemmas.Option.{get_or_from_slice_get, slice_get-get_or, slice_get-map, slice_get_within}
@@ -11,7 +11,7 @@ use Rattle.archive_file.specs.Archive.{disk_of as archive_disk_of}
 use Rattle.disk_journal.specs.Stands.{disk_of}
 use Rattle.lock_core.specs.Drawing.{has_other, may_go_on}
 use Rattle.lock_machine.specs.Machine.{is_enabled}
-use Rattle.lock_machine.proofs.Places.{neither, some_is}
+use Rattle.lock_machine.proofs.Places.{some_is}
 use Rattle.run_parties.proofs.Slots.{all_at}
 use Rattle.run_parties.specs.Replicas.{AreReplicasServed, AreReplicasTold}
 use Rattle.run_parties.specs.replica_turns.Master.{Past}
@@ -55,7 +55,7 @@ module _ {D K : Type 0} (disk_says : DiskSays D) (sink_says : SinkSays K) (may_g
       let count = r.running.under_way.count in
       let as_many = r.running.under_way.as_many in
       let rests = none_of_first (may_go_on p.machine p.others) (length p.machine.parties) i none (omega (arith, within, count, as_many)) in
-      let no_other : has_other p.others i ≡ false = (neither (is_enabled p.machine i) (has_other p.others i) rests).1 in
+      let no_other : has_other p.others i ≡ false = (or_parts (is_enabled p.machine i) (has_other p.others i) rests).1 in
       let none_here : nat_lt 0 left.other ≡ false =
       ap (λ (n : ℕ). nat_lt 0 n) (sym (get_or_from_slice_get turns.replicas.others.items i left.other 0 left.at_other)) ∙ (ap (λ (os : List ℕ). has_other os i) (sym r.others) ∙ no_other) in
       let low = ltb-false 0 left.other none_here in

@@ -2,7 +2,7 @@
 use Rattle.std.proofs.Common.{◌≡◌, Bool, true, false, cond, List, [], ◌∷◌, refl, sym, ap, ◌∙◌}
 use Rattle.std.specs.Prelude.{◌&&◌, ◌||◌, filter}
 use Rattle.std.specs.List.{list_any}
-use Rattle.std.proofs.lemmas.Bool.{eqb-true, true≢false}
+use Rattle.std.proofs.lemmas.Bool.{eqb-true, true≢false, and_parts}
 use Rattle.command_needs.specs.Sets.{AreOfWords, has_table}
 use Rattle.command_needs.specs.declared.needs.Needs.{Needs}
 use Rattle.depot_rows.specs.db_records.Record.{table_of}
@@ -35,14 +35,6 @@ module _ {X : Type 0} (same p : X → Bool) (Q : Type 0) (found : (x : X) → sa
       go true passes h rest = here passes (same x) refl h rest
       go false fails h rest = rest h
 
-and_right : (a b : Bool) → (a && b) ≡ true → b ≡ true
-and_right true b e = e
-and_right false b e = absurd (true≢false (sym e))
-
-and_left : (a b : Bool) → (a && b) ≡ true → a ≡ true
-and_left true b e = refl
-and_left false b e = absurd (true≢false (sym e))
-
 module _ {N : Type 0} (g : Gathered N) (whole : Bool) (needs : Needs) (held : tables_held g ≡ filter (holds_table whole needs) all_tables) (request : Request) (set : AreOfWords request.command needs) where
   -- a held table is one of the set
   in_set : (table : TableId) → is_held g.held.items table ≡ true → needs_table request.command table ≡ true
@@ -68,6 +60,6 @@ module _ {N : Type 0} (g : Gathered N) (whole : Bool) (needs : Needs) (held : ta
   pub changes_in_set : (changes : List Change) → are_held g.held.items changes ≡ true → AreNeeded request changes
   changes_in_set [] all = tt
   changes_in_set (c ∷ cs) all = (
-    in_set (table_of c.row) (and_left (is_held g.held.items (table_of c.row)) (are_held g.held.items cs) all),
-    changes_in_set cs (and_right (is_held g.held.items (table_of c.row)) (are_held g.held.items cs) all),
+    in_set (table_of c.row) (and_parts (is_held g.held.items (table_of c.row)) (are_held g.held.items cs) all).0,
+    changes_in_set cs (and_parts (is_held g.held.items (table_of c.row)) (are_held g.held.items cs) all).1,
   )

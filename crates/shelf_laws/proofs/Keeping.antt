@@ -3,6 +3,7 @@ use Rattle.std.proofs.Common.{◌≡◌, ℕ, Bool, true, false, List, [], ◌�
 use Rattle.std.specs.Prelude.{◌&&◌, not, option_and_then}
 use Rattle.std.specs.List.{list_all}
 use Rattle.std.specs.Option.{option_or}
+use Rattle.std.proofs.lemmas.Bool.{and_parts}
 use Rattle.depot_model.specs.depot_path.Bytes.{same}
 use Rattle.depot_model.specs.spec_form.Form.{FormValue}
 use Rattle.depot_model.specs.Asking.{to_open}
@@ -16,7 +17,6 @@ use Rattle.depot_model.specs.Steps.Opening.{right_refusal}
 use Rattle.depot_model.specs.declared.command.Command.{Command}
 use Rattle.depot_model.specs.declared.command.Command.TheVariants.{Shelve, ShelveDelete}
 use Rattle.depot_model.specs.declared.request.Request.{Request}
-use Rattle.depot_rows.proofs.Keys.{left-true, right-true}
 use Rattle.depot_runs.specs.Folds.{saved_at, command_of, shelf_next, shelf_from, shelf_state}
 use Rattle.step_forms.proofs.Combining.{done, each_refused}
 use Rattle.step_forms.proofs.Placing.{at_place}
@@ -71,8 +71,8 @@ module _ (name : List ℕ) (last : Option FormValue) where
   all_gone : (deeds d : List Deed) → list_all is_gone deeds ≡ true → Last d → Last (after d deeds)
   all_gone [] d gone keeps = keeps
   all_gone (deed ∷ deeds) d gone keeps =
-      all_gone deeds (deed ∷ d) (right-true (is_gone deed) (list_all is_gone deeds) gone)
-      (one_gone d deed (left-true (is_gone deed) (list_all is_gone deeds) gone) keeps)
+      all_gone deeds (deed ∷ d) (and_parts (is_gone deed) (list_all is_gone deeds) gone).1
+      (one_gone d deed (and_parts (is_gone deed) (list_all is_gone deeds) gone).0 keeps)
 
 removed : (d : List Deed) (request : Request) (n : ℕ) (files : _) → request.command ≡ Ok (ShelveDelete n files) → list_all is_gone (step d request).deeds ≡ true
 unfolding is_gone

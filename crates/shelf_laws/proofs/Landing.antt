@@ -2,6 +2,7 @@
 use Rattle.std.proofs.Common.{◌≡◌, ◌≤◌, ◌<◌, ◌^◌, ℕ, Bool, true, false, List, [], ◌∷◌, length, Option, Some, None, inl, refl, sym, ap, subst, ◌∙◌, arith}
 use Rattle.std.specs.Prelude.{nat_lt, nat_le, is_some, IsSome, IsSomeAnd, codes, decimal, option_map, option_and_then}
 use Rattle.std.specs.List.{list_all}
+use Rattle.std.proofs.lemmas.Bool.{and_parts}
 use Rattle.depot_model.specs.depot_path.Bytes.{same, is_digit}
 use Rattle.depot_model.specs.depot_path.Digits.{number_of, is_digits}
 use Rattle.depot_model.specs.depot_path.Path.{printed}
@@ -19,7 +20,7 @@ use Rattle.depot_model.specs.Rules.{IsSound, IsShelf, IsPending, shelf_value, sh
 use Rattle.depot_model.specs.Shelves.{is_kept, is_shelved, kept, kept_paths, shelf_name, shelf_paths}
 use Rattle.depot_model.specs.Values.{value_of}
 use Rattle.depot_rows.proofs.Entries.{In}
-use Rattle.depot_rows.proofs.Keys.{same-is, left-true, right-true}
+use Rattle.depot_rows.proofs.Keys.{same-is}
 use Rattle.depot_facts.proofs.Decimals.{decimal_digits, number_decimal, parts_are}
 use Rattle.depot_facts.proofs.Listed.{in_filter}
 use Rattle.depot_facts.proofs.Found.{spec_value, saved_shelf}
@@ -64,7 +65,7 @@ module _ (d : List Deed) (sound : IsSound d) (n : ℕ) (there : IsSome (landing 
     shelf = saved_shelf d sound (shelf_name n path) form saved
 
     digits : list_all is_digit number ≡ true
-    digits = right-true (nat_le 1 (length number)) (list_all is_digit number) (left-true (is_digits number) _ (left-true (is_numeral number) _ shelf.change))
+    digits = (and_parts (nat_le 1 (length number)) (list_all is_digit number) (and_parts (is_digits number) _ (and_parts (is_numeral number) _ shelf.change).0).0).1
 
     number_is : shelf_number (codes "Change") text ≡ n
     number_is =

@@ -3,6 +3,7 @@ use Rattle.std.proofs.Common.{◌≡◌, ◌≤◌, ◌<◌, ℕ, Bool, true, fa
 use Rattle.std.specs.Prelude.{◌&&◌, ◌||◌, ◌==◌, codes, decimal, flat_map, if◌then◌else◌, not, option_and_then, option_map, unwrap_or}
 use Rattle.std.specs.List.{enumerate_from}
 use Rattle.std.specs.Option.{option_flatten, option_map_or, option_or}
+use Rattle.std.proofs.lemmas.Bool.{and_parts}
 use Rattle.depot_rows.specs.depot_path.Bytes.{same}
 use Rattle.depot_rows.specs.depot_path.Digits.{is_digits, number_of}
 use Rattle.depot_rows.specs.db_records.declared.record.Record.{Record}
@@ -29,7 +30,7 @@ use Rattle.depot_rows.specs.depot_model.Shelves.{is_kept, kept, kept_action, kep
 use Rattle.depot_rows.specs.depot_model.Step.{Step as ModelStep, refuses, tells}
 use Rattle.depot_rows.specs.depot_model.Steps.Shelving.{describe_kept, fields_of_kept, listable, shelved_fields}
 use Rattle.depot_rows.specs.depot_model.Values.{value_of}
-use Rattle.depot_rows.proofs.Keys.{left-true, number-is, right-true, same-is}
+use Rattle.depot_rows.proofs.Keys.{number-is, same-is}
 use Rattle.opening_reads.proofs.Onwards.{all_but_first}
 use Rattle.reply_rows.specs.declared.step.Step.{Step}
 use Rattle.reply_rows.specs.Made.{IsMade, told}
@@ -40,7 +41,7 @@ use Rattle.shelf_ops.specs.Described.{change_told, form_fields, kept_word}
 -- ---- the base in the form of a kept file
 
 fifth : (a b c t e : Bool) → (a && (b && (c && (t && (e && true))))) ≡ true → e ≡ true
-fifth a b c t e h = left-true e true (right-true t (e && true) (right-true c (t && (e && true)) (right-true b (c && (t && (e && true))) (right-true a (b && (c && (t && (e && true)))) h))))
+fifth a b c t e h = (and_parts e true (and_parts t (e && true) (and_parts c (t && (e && true)) (and_parts b (c && (t && (e && true))) (and_parts a (b && (c && (t && (e && true)))) h).1).1).1).1).0
 
 there_too : (a b : Bool) → (not a || b) ≡ true → a ≡ true → b ≡ true
 there_too true b h e = h
@@ -63,10 +64,10 @@ module _ (d : List Deed) (sound : IsSound d) (n : ℕ) (path : List ℕ) (form :
       let numeral : is_numeral (value_of form (codes "Base")) ≡ true =
       ap is_numeral (sym (value (codes "Base")))
       ∙ there_too (has (codes "Base")) (is_numeral (shelf_value (codes "Base") (printed_form form)))
-      (left-true (counts (codes "Base")) (counts (codes "FromRev") && true) (right-true (counts (codes "Change")) (counts (codes "Base") && (counts (codes "FromRev") && true)) shelf.numbers))
+      (and_parts (counts (codes "Base")) (counts (codes "FromRev") && true) (and_parts (counts (codes "Change")) (counts (codes "Base") && (counts (codes "FromRev") && true)) shelf.numbers).1).0
       (fifth (has (codes "Client")) (has (codes "User")) (has (codes "Action")) (has (codes "Type")) (has (codes "Base")) whole.whole) in
       same-is (decimal (number_of (value_of form (codes "Base")))) (value_of form (codes "Base"))
-      (right-true (is_digits (value_of form (codes "Base"))) _ numeral)
+      (and_parts (is_digits (value_of form (codes "Base"))) _ numeral).1
 
 -- ---- the word of the action in the form of a kept file
 

@@ -2,6 +2,7 @@
 use Rattle.std.proofs.Common.{◌≡◌, ℕ, Bool, true, false, List, [], ◌∷◌, ◌++◌, Option, Some, None, inl, inr, refl, sym, subst, ◌∙◌}
 use Rattle.std.specs.Prelude.{◌&&◌, ◌==◌, not, flat_map, IfSome, IsSomeAnd, option_and_then, unwrap_or, if◌then◌else◌}
 use Rattle.std.specs.List.{list_all}
+use Rattle.std.proofs.lemmas.Bool.{and_parts}
 use Rattle.depot_rows.specs.depot_path.Bytes.{same}
 use Rattle.depot_rows.specs.depot_path.Path.{is_path}
 use Rattle.depot_rows.specs.depot_model.Arguments.{named, names, opened_by, over, is_in, within_files}
@@ -20,7 +21,7 @@ use Rattle.depot_rows.specs.depot_model.declared.refusal.Refusal.{Refusal}
 use Rattle.depot_rows.specs.depot_model.declared.refusal.Refusal.TheVariants.{NoSuchChange, NotYours}
 use Rattle.depot_rows.specs.depot_model.declared.reply.Row.{Row}
 use Rattle.depot_rows.specs.depot_model.declared.request.Caller.{Caller}
-use Rattle.depot_rows.proofs.Keys.{same-is, left-true, right-true, number-is}
+use Rattle.depot_rows.proofs.Keys.{same-is, number-is}
 use Rattle.sound_deeds.specs.Keeping.{IsOpenChange}
 use Rattle.sound_file_steps.proofs.Flat.{Meets, Shuts, flat_sound, shuts_sound}
 use Rattle.depot_facts.proofs.PathsTold.{opened_are}
@@ -41,7 +42,7 @@ change_ok d caller n none = inr (go (pending d n) none)
     go (Some p) e = test (is_of caller p) refl (not_refused (not (is_of caller p)) (NotYours n) e)
       where
         test : (b : Bool) → is_of caller p ≡ b → not b ≡ false → p.client ≡ caller.client
-        test true f g = same-is p.client caller.client (right-true (same p.user caller.user) (same p.client caller.client) f)
+        test true f g = same-is p.client caller.client (and_parts (same p.user caller.user) (same p.client caller.client) f).1
         test false f g = absurd cc
 
 pub named_change_ok : (d : List Deed) (caller : Caller) (change : Option ℕ) → named_change_refusal d caller change ≡ None
@@ -122,11 +123,11 @@ module _ (d : List Deed) (caller : Caller) (sound : IsSound d) where
   files_shut taken [] e = tt
   files_shut taken (path ∷ paths) e =
       joined Shuts (if is_in taken path then nothing else revert_file d caller path).deeds (revert_files d caller (both_ends d caller path ++ taken) paths).deeds
-      (go (is_in taken path)) (files_shut (both_ends d caller path ++ taken) paths (right-true (is_path path) (list_all is_path paths) e))
+      (go (is_in taken path)) (files_shut (both_ends d caller path ++ taken) paths (and_parts (is_path path) (list_all is_path paths) e).1)
     where
       go : (b : Bool) → AllOf Shuts (if b then nothing else revert_file d caller path).deeds
       go true = tt
-      go false = revert_shuts path (left-true (is_path path) (list_all is_path paths) e)
+      go false = revert_shuts path (and_parts (is_path path) (list_all is_path paths) e).0
 
   named_shut : (taken : List (List ℕ)) (a : FileArgument) (paths : List (List ℕ)) → list_all is_path paths ≡ true → AllOf Shuts (revert_named d caller taken a paths).deeds
   named_shut taken a [] e = tt

@@ -4,6 +4,7 @@ use Rattle.std.specs.Prelude.{◌&&◌, ◌==◌, codes, IfSome, IsSome, IsSomeA
 use Rattle.std.specs.List.{list_all}
 use Rattle.std.specs.Option.{option_or, option_flatten, option_map_or}
 use Rattle.std.proofs.lemmas.Option.{slice_get_within}
+use Rattle.std.proofs.lemmas.Bool.{and_parts}
 use Rattle.depot_rows.specs.depot_path.Bytes.{same}
 use Rattle.depot_rows.specs.depot_path.Path.{is_path, printed, path_of}
 use Rattle.depot_rows.proofs.depot_path.Paths.{prints_path}
@@ -22,7 +23,7 @@ use Rattle.depot_rows.specs.depot_model.Rows.{action_word}
 use Rattle.depot_rows.specs.depot_model.Rules.{Rows, IsSound, IsClient, IsLabel, IsBase, IsSource, IsMoved, IsPath, IsOpenIn, IsPendingOf, HasRev, has_paths, is_move_word}
 use Rattle.depot_rows.specs.Effects.{have_row, label_row}
 use Rattle.depot_rows.proofs.ChangeCounter.{change_of}
-use Rattle.depot_rows.proofs.Keys.{left-true, right-true, number-is}
+use Rattle.depot_rows.proofs.Keys.{number-is}
 use Rattle.depot_rows.proofs.Locks.{IsOf, opened-is}
 use Rattle.depot_rows.proofs.Spelled.{at_path-here}
 use Rattle.sound_deeds.specs.Keeping.{OpeningKeeps, IsTaken, IsOpenChange, is_move}
@@ -133,14 +134,14 @@ said_has c p _ has o e = absurd cc
 opened_has : (d : List Deed) → list_all has_paths d ≡ true → (c p : List ℕ) (o : Opening) → opened d c p ≡ Some o → has_paths (Open o) ≡ true
 opened_has [] has c p o e = absurd cc
 opened_has (deed ∷ d) has c p o e =
-    go (opening_said c p deed) refl e (opened_has d (right-true (has_paths deed) (list_all has_paths d) has) c p o)
+    go (opening_said c p deed) refl e (opened_has d (and_parts (has_paths deed) (list_all has_paths d) has).1 c p o)
   where
     go : (s : Option (Option Opening)) → opening_said c p deed ≡ s → option_flatten (option_or s (latest (opening_said c p) d)) ≡ Some o
         → (opened d c p ≡ Some o → has_paths (Open o) ≡ true) → has_paths (Open o) ≡ true
     go None f h later = later h
     go (Some None) f h later = absurd cc
     go (Some (Some x)) f h later = let one : x ≡ o = cc in
-        said_has c p deed (left-true (has_paths deed) (list_all has_paths d) has) o (f ∙ ap (λ (y : Opening). Some (Some y)) one)
+        said_has c p deed (and_parts (has_paths deed) (list_all has_paths d) has).0 o (f ∙ ap (λ (y : Opening). Some (Some y)) one)
 
 pub record IsKnown (d : List Deed) (client path : List ℕ) (o : Opening) : Type 0 where
   pub client_is : o.client ≡ client

@@ -3,6 +3,7 @@ use Rattle.std.proofs.Common.{◌≡◌, ◌≤◌, ◌<◌, ◌+◌, ◌++◌, 
 use Rattle.std.specs.Prelude.{◌&&◌, ◌==◌, max, not, nat_le, nat_lt, codes, find, IfSome, is_some, is_none, unwrap_or, option_map, option_and_then, ◌||◌, if◌then◌else◌}
 use Rattle.std.specs.List.{list_all}
 use Rattle.std.proofs.lemmas.Bool.Decides.{nat_tests}
+use Rattle.std.proofs.lemmas.Bool.{and_parts}
 use Rattle.depot_rows.specs.depot_path.Path.{is_path, printed}
 use Rattle.depot_rows.specs.depot_path.declared.revision.RevSpec.{RevSpec}
 use Rattle.depot_rows.specs.depot_path.declared.revision.RevSpec.TheVariants.{Number, Newest, Have, Zero, Change, Only, Moment, Named}
@@ -36,7 +37,6 @@ use Rattle.depot_rows.specs.depot_model.declared.command.FileArgument.{FileArgum
 use Rattle.depot_rows.specs.depot_model.declared.refusal.Refusal.TheVariants.{NotInView, AlreadyOpen, Exists}
 use Rattle.depot_rows.specs.depot_model.declared.reply.Row.{Row}
 use Rattle.depot_rows.specs.depot_model.declared.request.Caller.{Caller}
-use Rattle.depot_rows.proofs.Keys.{left-true, right-true}
 use Rattle.depot_rows.proofs.Spelled.{at_path-here}
 use Rattle.sound_deeds.specs.Keeping.{is_move}
 use Rattle.sound_deeds.specs.Loose.{IsLooseRow}
@@ -53,7 +53,7 @@ use Rattle.depot_facts.proofs.Steps.{AllOf, all_filtered, unless_all, within_all
 
 all_joined : (P : List ℕ → Bool) (xs ys : List (List ℕ)) → list_all P xs ≡ true → list_all P ys ≡ true → list_all P (xs ++ ys) ≡ true
 all_joined P [] ys e f = f
-all_joined P (x ∷ xs) ys e f = (λ i. left-true (P x) (list_all P xs) e i && list_all P (xs ++ ys)) ∙ all_joined P xs ys (right-true (P x) (list_all P xs) e) f
+all_joined P (x ∷ xs) ys e f = (λ i. (and_parts (P x) (list_all P xs) e).0 i && list_all P (xs ++ ys)) ∙ all_joined P xs ys (and_parts (P x) (list_all P xs) e).1 f
 
 made_path : (to : List Piece) (ts : List (List ℕ)) → IfSome (made_of to ts) (λ file. is_path file ≡ true)
 made_path to ts = go (is_path (filled to ts)) refl (same_texts (texts to (filled to ts)) ts)
@@ -86,7 +86,7 @@ files_at_are (line ∷ later) path =
 
 found_in : (P test : List ℕ → Bool) (xs : List (List ℕ)) (other : List ℕ) → list_all P xs ≡ true → P other ≡ true → P (unwrap_or (find test xs) other) ≡ true
 found_in P test [] other e is = is
-found_in P test (x ∷ xs) other e is = go (test x) (left-true (P x) (list_all P xs) e) (found_in P test xs other (right-true (P x) (list_all P xs) e) is)
+found_in P test (x ∷ xs) other e is = go (test x) (and_parts (P x) (list_all P xs) e).0 (found_in P test xs other (and_parts (P x) (list_all P xs) e).1 is)
   where
     go : (b : Bool) → P x ≡ true → P (unwrap_or (find test xs) other) ≡ true → P (unwrap_or (if b then Some x else find test xs) other) ≡ true
     go true h later = h
@@ -94,7 +94,7 @@ found_in P test (x ∷ xs) other e is = go (test x) (left-true (P x) (list_all P
 
 pub first_live_is : (d : List Deed) (files : List (List ℕ)) → list_all is_path files ≡ true → IfSome (first_live d files) (λ file. is_path file ≡ true)
 first_live_is d [] e = tt
-first_live_is d (file ∷ files) e = found_in is_path (is_live_head d) (file ∷ files) file e (left-true (is_path file) (list_all is_path files) e)
+first_live_is d (file ∷ files) e = found_in is_path (is_live_head d) (file ∷ files) file e (and_parts (is_path file) (list_all is_path files) e).0
 
 -- ---- types and numbers of revisions
 

@@ -2,6 +2,7 @@
 use Rattle.std.proofs.Common.{◌≡◌, ◌≤◌, ℕ, Bool, true, false, List, [], ◌∷◌, Option, Some, None, refl, sym, ap, subst, ◌∙◌, arith}
 use Rattle.std.specs.Prelude.{◌&&◌, map, filter, filter_map, IfSome, is_none, option_map, if◌then◌else◌}
 use Rattle.std.specs.List.{list_all, cons_option}
+use Rattle.std.proofs.lemmas.Bool.{and_parts}
 use Rattle.depot_rows.specs.depot_path.Bytes.{same}
 use Rattle.depot_rows.specs.depot_path.Path.{is_path, printed}
 use Rattle.depot_rows.specs.db_records.declared.key.Key.TheVariants as keys
@@ -23,7 +24,7 @@ use Rattle.depot_rows.specs.depot_model.declared.command.FileArgument.{FileArgum
 use Rattle.depot_rows.specs.depot_model.declared.command.Taking.{Taking}
 use Rattle.depot_rows.specs.depot_model.declared.command.Taking.TheVariants.{Theirs, Yours}
 use Rattle.depot_rows.specs.depot_model.declared.request.Caller.{Caller}
-use Rattle.depot_rows.proofs.Keys.{same-is, left-true, right-true}
+use Rattle.depot_rows.proofs.Keys.{same-is}
 use Rattle.depot_rows.proofs.Spelled.{at_path-here}
 use Rattle.sound_deeds.specs.Keeping.{IsTaken}
 use Rattle.sound_deeds.specs.Loose.{IsLooseRow}
@@ -41,21 +42,21 @@ use Rattle.depot_facts.proofs.Steps.{AllOf, all_filtered, joined, unless_all, wi
 
 owed_has : (d : List Deed) → list_all has_paths d ≡ true → (c p f : List ℕ) → IfSome (owed d c p f) (λ r. has_paths (Owe r.owing) ≡ true)
 owed_has [] has c p f = tt
-owed_has (Owe o ∷ d) has c p f = go (same o.client c && same o.path p && same o.from f) (owed_has d (right-true (has_paths (Owe o)) (list_all has_paths d) has) c p f)
+owed_has (Owe o ∷ d) has c p f = go (same o.client c && same o.path p && same o.from f) (owed_has d (and_parts (has_paths (Owe o)) (list_all has_paths d) has).1 c p f)
   where
     go : (b : Bool) → IfSome (owed d c p f) (λ r. has_paths (Owe r.owing) ≡ true)
         → IfSome (if b then Some (record { owing = o; how = None }) else owed d c p f) (λ r. has_paths (Owe r.owing) ≡ true)
-    go true h = left-true (has_paths (Owe o)) (list_all has_paths d) has
+    go true h = (and_parts (has_paths (Owe o)) (list_all has_paths d) has).0
     go false h = h
 owed_has (Paid held from how ∷ d) has c p f =
-    go (is_held c p held && same from f) (owed d c p f) (owed_has d (right-true (has_paths (Paid held from how)) (list_all has_paths d) has) c p f)
+    go (is_held c p held && same from f) (owed d c p f) (owed_has d (and_parts (has_paths (Paid held from how)) (list_all has_paths d) has).1 c p f)
   where
     go : (b : Bool) (o : Option Resolve) → IfSome o (λ r. has_paths (Owe r.owing) ≡ true)
         → IfSome (if b then option_map (paid_by how) o else o) (λ r. has_paths (Owe r.owing) ≡ true)
     go true None h = tt
     go true (Some r) h = h
     go false o h = h
-owed_has (Shut held ∷ d) has c p f = go (is_held c p held) (owed_has d (right-true (has_paths (Shut held)) (list_all has_paths d) has) c p f)
+owed_has (Shut held ∷ d) has c p f = go (is_held c p held) (owed_has d (and_parts (has_paths (Shut held)) (list_all has_paths d) has).1 c p f)
   where
     go : (b : Bool) → IfSome (owed d c p f) (λ r. has_paths (Owe r.owing) ≡ true)
         → IfSome (if b then None else owed d c p f) (λ r. has_paths (Owe r.owing) ≡ true)
@@ -67,12 +68,12 @@ owed_has (Group name users ∷ d) has c p f = owed_has d has c p f
 owed_has (Count name value ∷ d) has c p f = owed_has d has c p f
 owed_has (Pend x ∷ d) has c p f = owed_has d has c p f
 owed_has (Drop n ∷ d) has c p f = owed_has d has c p f
-owed_has (Open o ∷ d) has c p f = owed_has d (right-true (has_paths (Open o)) (list_all has_paths d) has) c p f
-owed_has (Hold held ∷ d) has c p f = owed_has d (right-true (has_paths (Hold held)) (list_all has_paths d) has) c p f
-owed_has (Free held ∷ d) has c p f = owed_has d (right-true (has_paths (Free held)) (list_all has_paths d) has) c p f
-owed_has (Got held rev ∷ d) has c p f = owed_has d (right-true (has_paths (Got held rev)) (list_all has_paths d) has) c p f
-owed_has (Tag label path rev ∷ d) has c p f = owed_has d (right-true (has_paths (Tag label path rev)) (list_all has_paths d) has) c p f
-owed_has (Land l ∷ d) has c p f = owed_has d (right-true (has_paths (Land l)) (list_all has_paths d) has) c p f
+owed_has (Open o ∷ d) has c p f = owed_has d (and_parts (has_paths (Open o)) (list_all has_paths d) has).1 c p f
+owed_has (Hold held ∷ d) has c p f = owed_has d (and_parts (has_paths (Hold held)) (list_all has_paths d) has).1 c p f
+owed_has (Free held ∷ d) has c p f = owed_has d (and_parts (has_paths (Free held)) (list_all has_paths d) has).1 c p f
+owed_has (Got held rev ∷ d) has c p f = owed_has d (and_parts (has_paths (Got held rev)) (list_all has_paths d) has).1 c p f
+owed_has (Tag label path rev ∷ d) has c p f = owed_has d (and_parts (has_paths (Tag label path rev)) (list_all has_paths d) has).1 c p f
+owed_has (Land l ∷ d) has c p f = owed_has d (and_parts (has_paths (Land l)) (list_all has_paths d) has).1 c p f
 
 pub record IsDue (d : List Deed) (client path : List ℕ) (r : Owing) : Type 0 where
   pub client_is : r.client ≡ client
@@ -90,8 +91,8 @@ due d sound c p f = go (owed d c p f) refl (owed_is d c p f) (owed_has d sound.p
         → IfSome o (λ (r : Resolve). IsDue d c p r.owing)
     go None e of has = tt
     go (Some r) e of has =
-        let pathed : is_path (r.owing).path ≡ true = left-true (is_path (r.owing).path) _ has in
-        let from_pathed : is_path (r.owing).from ≡ true = left-true (is_path (r.owing).from) _ (right-true (is_path (r.owing).path) _ has) in
+        let pathed : is_path (r.owing).path ≡ true = (and_parts (is_path (r.owing).path) _ has).0 in
+        let from_pathed : is_path (r.owing).from ≡ true = (and_parts (is_path (r.owing).from) _ (and_parts (is_path (r.owing).path) _ has).1).0 in
         let here : owed d c (r.owing).path (r.owing).from ≡ Some r = (λ i. owed d c (of.1 i) (of.2 i)) ∙ e in
         let row_is : record_of d (keys.Resolve c (printed (r.owing).path) (printed (r.owing).from)) ≡ Some (resolve_record r) =
         at_path-here (r.owing).path (λ x. at_path (printed (r.owing).from) (λ y. option_map resolve_record (owed d c x y))) pathed

@@ -4,6 +4,7 @@ use Rattle.std.specs.Prelude.{◌==◌, not, codes, map, filter_map, nat_lt, IfS
 use Rattle.std.specs.Option.{option_or, option_flatten}
 use Rattle.std.specs.List.{cons_option}
 use Rattle.std.proofs.lemmas.Bool.Decides.{nat_tests}
+use Rattle.std.proofs.lemmas.Bool.{and_parts}
 use Rattle.depot_rows.specs.depot_path.Name.{is_name}
 use Rattle.depot_rows.specs.spec_form.Form.{FormValue, lines_of}
 use Rattle.depot_rows.specs.spec_form.Places.{field_place}
@@ -24,7 +25,7 @@ use Rattle.depot_rows.specs.depot_model.declared.refusal.Limit.TheVariants.{Text
 use Rattle.depot_rows.specs.depot_model.declared.request.Caller.{Caller}
 use Rattle.depot_rows.specs.depot_model.declared.request.Request.{Request}
 use Rattle.depot_rows.proofs.ChangeCounter.{change_of, top_value}
-use Rattle.depot_rows.proofs.Keys.{same-is, right-true, number-self}
+use Rattle.depot_rows.proofs.Keys.{same-is, number-self}
 use Rattle.sound_deeds.specs.Keeping.{IsOpenChange}
 use Rattle.sound_deeds.proofs.Whole.{one_sound}
 use Rattle.sound_file_steps.proofs.Files.{change_ok}
@@ -126,7 +127,7 @@ module _ (d : List Deed) (sound : IsSound d) where
             → (elim p as (λ _. Option Refusal) [ None ↦ Some (NoSuchChange n) | Some q ↦ refuse_if (not (is_of caller q)) (NotYours n) ]) ≡ None
             → IfSome p (λ q. q.client ≡ caller.client)
         own_of None h e = tt
-        own_of (Some p) h e = same-is p.client caller.client (right-true _ _ (yes (is_of caller p) (not_refused (not (is_of caller p)) (NotYours n) e)))
+        own_of (Some p) h e = same-is p.client caller.client (and_parts _ _ (yes (is_of caller p) (not_refused (not (is_of caller p)) (NotYours n) e))).1
           where
             yes : (b : Bool) → not b ≡ false → b ≡ true
             yes true f = refl

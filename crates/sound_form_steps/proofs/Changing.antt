@@ -3,6 +3,7 @@ use Rattle.std.proofs.Common.{◌≡◌, ◌≢◌, ◌≤◌, ◌+◌, ℕ, tru
 use Rattle.std.specs.Prelude.{not, codes, decimal, filter_map, nat_le, nat_lt, IfSome, IsSomeAnd, IsTrue, is_some}
 use Rattle.std.specs.Option.{option_map_or}
 use Rattle.std.proofs.lemmas.Bool.Decides.{nat_tests}
+use Rattle.std.proofs.lemmas.Bool.{or_parts, and_parts}
 use Rattle.depot_rows.specs.depot_path.Bytes.{same}
 use Rattle.depot_rows.specs.spec_form.Form.{FormValue}
 use Rattle.depot_rows.specs.spec_form.Printing.{printed_form}
@@ -24,7 +25,7 @@ use Rattle.depot_rows.specs.depot_model.Steps.Submitting.{openings_of}
 use Rattle.depot_rows.specs.depot_model.declared.refusal.Refusal.TheVariants.{NotYours, NotDeletable, OverLimit}
 use Rattle.depot_rows.specs.depot_model.declared.refusal.Limit.TheVariants.{Generation}
 use Rattle.depot_rows.specs.depot_model.declared.request.Caller.{Caller}
-use Rattle.depot_rows.proofs.Keys.{same-is, same-self, left-true, right-true}
+use Rattle.depot_rows.proofs.Keys.{same-is, same-self}
 use Rattle.sound_deeds.specs.Keeping.{HasNoFix, HasNoOpening, HasNoShelf, IsOpenChange}
 use Rattle.sound_deeds.proofs.Whole.{one_sound}
 use Rattle.depot_facts.proofs.OpenFiles.{in_openings}
@@ -36,7 +37,7 @@ use Rattle.sound_file_steps.proofs.Known.{IsKnown, opened_known}
 use Rattle.depot_facts.proofs.Listed.{filter_in, filter_map_in, in_some}
 use Rattle.depot_rows.proofs.Entries.{In}
 use Rattle.depot_facts.proofs.Steps.{not_refused, unless_sound}
-use Rattle.depot_facts.proofs.Tests.{not_false, either_false}
+use Rattle.depot_facts.proofs.Tests.{not_false}
 
 none_of : {A : Type 0} (o : Option A) → is_some o ≡ false → o ≡ None
 none_of None e = refl
@@ -53,7 +54,7 @@ module _ (d : List Deed) (sound : IsSound d) where
       go (Some form) e = λ on is.
           let value : value_in FixShape (codes "Change") (printed_form form) ≡ value_of form (codes "Change") = spec_value d sound FixForm name form e (codes "Change") in
           let numeral : is_numeral (value_of form (codes "Change")) ≡ true =
-          ap is_numeral (sym value) ∙ left-true _ _ ((saved_fix d sound name form e).change) in
+          ap is_numeral (sym value) ∙ (and_parts _ _ ((saved_fix d sound name form e).change)).0 in
           let text : value_of form (codes "Change") ≡ decimal n = numeral_is (value_of form (codes "Change")) numeral ∙ ap decimal is in
           let of : is_of_change n form ≡ true = ap (λ (w : List ℕ). same w (decimal n)) text ∙ same-self (decimal n) in
           let there : In (fixes_of d n) form =
@@ -69,7 +70,7 @@ module _ (d : List Deed) (sound : IsSound d) where
       go None e = tt
       go (Some form) e = λ on is.
           let value : value_in ShelfShape (codes "Change") (printed_form form) ≡ value_of form (codes "Change") = spec_value d sound ShelfForm name form e (codes "Change") in
-          let numeral : is_numeral (value_of form (codes "Change")) ≡ true = ap is_numeral (sym value) ∙ left-true _ _ ((saved_shelf d sound name form e).change) in
+          let numeral : is_numeral (value_of form (codes "Change")) ≡ true = ap is_numeral (sym value) ∙ (and_parts _ _ ((saved_shelf d sound name form e).change)).0 in
           let text : value_of form (codes "Change") ≡ decimal n = numeral_is (value_of form (codes "Change")) numeral ∙ ap decimal is in
           let of : is_of_change n form ≡ true = ap (λ (w : List ℕ). same w (decimal n)) text ∙ same-self (decimal n) in
           absurd (let clash : true ≡ false = sym (shelf_there d sound n name form e on of) ∙ none in cc)
@@ -83,7 +84,7 @@ module _ (d : List Deed) (sound : IsSound d) where
     its_client (Some p) q e h =
         let one : p ≡ q = cc in
         ap (λ (x : Pending). x.client) (sym one)
-        ∙ same-is p.client caller.client (right-true (same p.user caller.user) (same p.client caller.client) (not_false (is_of caller p) h))
+        ∙ same-is p.client caller.client (and_parts (same p.user caller.user) (same p.client caller.client) (not_false (is_of caller p) h)).1
 
     unopened : not (option_map_or (is_of caller) (pending d n) true) ≡ false → nat_lt 0 (length (openings_of d caller n)) ≡ false → HasNoOpening d n
     unopened own empty client path = go (opened d client path) refl
@@ -108,8 +109,8 @@ module _ (d : List Deed) (sound : IsSound d) where
 
     pub change_delete_sound : IsSound (after d (change_delete d caller n).deeds)
     change_delete_sound = unless_sound d sound (delete_refusals d caller n) _ (λ none.
-        let own = either_false _ _ (not_refused _ (NotYours n) none.1.0) in
-        let free = either_false (is_some (landing d n)) _ (not_refused _ (NotDeletable n) none.1.1.0) in
+        let own = or_parts _ _ (not_refused _ (NotYours n) none.1.0) in
+        let free = or_parts (is_some (landing d n)) _ (not_refused _ (NotDeletable n) none.1.1.0) in
         one_sound d (Drop n) sound refl (none_of (landing d n) free.0, no_shelf n unshelved) (unopened own.0 free.1, no_fix n unfixed))
 
   -- ---- checkpoint

@@ -2,12 +2,11 @@
 use Rattle.std.proofs.Common.{◌≡◌, ◌≤◌, ◌+◌, ◌⊎◌, ℕ, suc, Bool, true, false, List, [], ◌∷◌, length, inl, inr, refl, sym, ap, ◌∙◌, arith}
 use Rattle.std.specs.Prelude.{◌||◌, not, filter, if◌then◌else◌}
 use Rattle.std.specs.List.{list_any}
-use Rattle.std.proofs.lemmas.Bool.{not-true}
+use Rattle.std.proofs.lemmas.Bool.{not-true, and_from, and_parts}
 use Rattle.depot_rows.specs.depot_path.Bytes.{same}
 use Rattle.depot_rows.specs.depot_model.Rules.{are_distinct}
-use Rattle.depot_rows.proofs.Keys.{same-self, left-true, right-true}
+use Rattle.depot_rows.proofs.Keys.{same-self}
 use Rattle.depot_rows.proofs.Entries.{In}
-use Rattle.depot_facts.proofs.Tests.{both_true}
 
 -- ---- a list without one text
 
@@ -50,8 +49,8 @@ all_still x (z ∷ xs) ys apart h = go (same x z) refl apart (λ g. all_still x 
 pub no_more : (xs ys : List (List ℕ)) → are_distinct xs ≡ true → AllIn xs ys → length xs ≤ length ys
 no_more [] ys apart h = omega arith
 no_more (x ∷ xs) ys apart h =
-    let alone : list_any (same x) xs ≡ false = not-true (list_any (same x) xs) (left-true (not (list_any (same x) xs)) (are_distinct xs) apart) in
-    let rest = no_more xs (without x ys) (right-true (not (list_any (same x) xs)) (are_distinct xs) apart) (all_still x xs ys alone h.1) in
+    let alone : list_any (same x) xs ≡ false = not-true (list_any (same x) xs) (and_parts (not (list_any (same x) xs)) (are_distinct xs) apart).0 in
+    let rest = no_more xs (without x ys) (and_parts (not (list_any (same x) xs)) (are_distinct xs) apart).1 (all_still x xs ys alone h.1) in
     let less = one_less x ys h.0 in
     omega (arith, rest, less)
 
@@ -80,10 +79,10 @@ none_kept test x (y ∷ ys) e = go (same x y) refl (test y) e (none_kept test x 
 pub distinct_kept : (test : List ℕ → Bool) (xs : List (List ℕ)) → are_distinct xs ≡ true → are_distinct (filter test xs) ≡ true
 distinct_kept test [] e = refl
 distinct_kept test (x ∷ xs) e =
-    go (test x) (none_kept test x xs (not-true (list_any (same x) xs) (left-true (not (list_any (same x) xs)) (are_distinct xs) e)))
-    (distinct_kept test xs (right-true (not (list_any (same x) xs)) (are_distinct xs) e))
+    go (test x) (none_kept test x xs (not-true (list_any (same x) xs) (and_parts (not (list_any (same x) xs)) (are_distinct xs) e).0))
+    (distinct_kept test xs (and_parts (not (list_any (same x) xs)) (are_distinct xs) e).1)
   where
     go : (b : Bool) → list_any (same x) (filter test xs) ≡ false → are_distinct (filter test xs) ≡ true
         → are_distinct (if b then x ∷ filter test xs else filter test xs) ≡ true
-    go true alone later = both_true (not (list_any (same x) (filter test xs))) (are_distinct (filter test xs)) (ap not alone) later
+    go true alone later = and_from (not (list_any (same x) (filter test xs))) (are_distinct (filter test xs)) (ap not alone) later
     go false alone later = later

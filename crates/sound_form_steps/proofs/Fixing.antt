@@ -3,6 +3,7 @@ use Rattle.std.proofs.Common.{◌≡◌, ◌≤◌, ℕ, Bool, true, false, List
 use Rattle.std.specs.Prelude.{◌&&◌, not, codes, map, IsSome, if◌then◌else◌}
 use Rattle.std.specs.List.{list_all}
 use Rattle.std.specs.Option.{option_or}
+use Rattle.std.proofs.lemmas.Bool.{and_parts}
 use Rattle.depot_rows.specs.depot_path.Bytes.{same}
 use Rattle.depot_rows.specs.depot_path.Digits.{number_of}
 use Rattle.depot_rows.specs.spec_form.Form.{FormValue, with_field, has_field}
@@ -16,7 +17,6 @@ use Rattle.depot_rows.specs.depot_model.Step.{Step, nothing, after, all_of}
 use Rattle.depot_rows.specs.depot_model.Steps.Jobs.{unfix, unfix_job, fix_delete, distinct, is_change, no_job}
 use Rattle.depot_rows.specs.depot_model.declared.refusal.Refusal.TheVariants.{NoSuchChange}
 use Rattle.depot_rows.specs.depot_model.Step.{refuse_if}
-use Rattle.depot_rows.proofs.Keys.{left-true, right-true}
 use Rattle.sound_deeds.specs.Keeping.{FixKeeps, FixesFit}
 use Rattle.sound_deeds.proofs.Whole.{one_sound}
 use Rattle.depot_facts.proofs.Fields.{other_value, own_value, has_valued, state_spelled}
@@ -47,8 +47,8 @@ module _ (d : List Deed) (name : List ℕ) (form : FormValue) where
   all_before : is_on form ≡ false → (n : ℕ) (jobs : List (List ℕ)) → list_all (has_fix (Spec FixForm name form ∷ d) n) jobs ≡ true → list_all (has_fix d n) jobs ≡ true
   all_before off n [] e = refl
   all_before off n (job ∷ jobs) e =
-      (λ i. on_before off n job (left-true (has_fix (Spec FixForm name form ∷ d) n job) (list_all (has_fix (Spec FixForm name form ∷ d) n) jobs) e) i && list_all (has_fix d n) jobs)
-      ∙ all_before off n jobs (right-true (has_fix (Spec FixForm name form ∷ d) n job) (list_all (has_fix (Spec FixForm name form ∷ d) n) jobs) e)
+      (λ i. on_before off n job (and_parts (has_fix (Spec FixForm name form ∷ d) n job) (list_all (has_fix (Spec FixForm name form ∷ d) n) jobs) e).0 i && list_all (has_fix d n) jobs)
+      ∙ all_before off n jobs (and_parts (has_fix (Spec FixForm name form ∷ d) n job) (list_all (has_fix (Spec FixForm name form ∷ d) n) jobs) e).1
 
   still_fit : is_on form ≡ false → FixesFit d → FixesFit (Spec FixForm name form ∷ d)
   still_fit off fit n jobs apart all = fit n jobs apart (all_before off n jobs all)

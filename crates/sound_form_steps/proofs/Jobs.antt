@@ -4,6 +4,7 @@ use Rattle.std.specs.Prelude.{◌&&◌, ◌==◌, not, codes, decimal, nat_le, n
 use Rattle.std.specs.List.{list_all}
 use Rattle.std.proofs.lemmas.Bool.Decides.{nat_tests}
 use Rattle.std.proofs.lemmas.Fmt.{length-decimal-le}
+use Rattle.std.proofs.lemmas.Bool.{and_from, and_parts}
 use Rattle.depot_rows.specs.depot_path.Bytes.{same, is_digit, begins_with}
 use Rattle.depot_rows.specs.depot_path.Digits.{number_of}
 use Rattle.depot_rows.specs.depot_path.Utf8.{is_utf8}
@@ -22,21 +23,21 @@ use Rattle.depot_rows.specs.depot_model.Steps.Jobs.{is_new, is_status, saved_nam
 use Rattle.depot_rows.specs.depot_model.Values.{value_of}
 use Rattle.depot_rows.specs.depot_model.declared.refusal.Refusal.TheVariants.{BadForm, NoSuchJob, OverLimit}
 use Rattle.depot_rows.specs.depot_model.declared.refusal.Limit.TheVariants.{Text, Jobs}
-use Rattle.depot_rows.proofs.Keys.{same-is, same-self, left-true, right-true}
+use Rattle.depot_rows.proofs.Keys.{same-is, same-self}
 use Rattle.sound_deeds.proofs.Whole.{one_sound}
 use Rattle.depot_facts.proofs.Fields.{other_value, own_value, has_valued, job_spelled}
 use Rattle.depot_facts.proofs.Found.{saved_job}
 use Rattle.depot_facts.proofs.Decimals.{Writes, written, digits_without, digits_utf8}
 use Rattle.depot_facts.proofs.Spelled.{spelled_is}
 use Rattle.depot_facts.proofs.Steps.{not_refused, unless_sound}
-use Rattle.depot_facts.proofs.Tests.{not_false, both_true}
+use Rattle.depot_facts.proofs.Tests.{not_false}
 
 -- ---- names of jobs
 
 pub named_job : (rest : List ℕ) → list_all is_digit rest ≡ true → is_value (106 ∷ 111 ∷ 98 ∷ rest) ≡ true
 named_job rest all =
-    both_true _ _
-    (both_true (is_utf8 (106 ∷ 111 ∷ 98 ∷ rest)) _
+    and_from _ _
+    (and_from (is_utf8 (106 ∷ 111 ∷ 98 ∷ rest)) _
     (ascii-cons 106 (111 ∷ 98 ∷ rest) (omega arith) ∙ ascii-cons 111 (98 ∷ rest) (omega arith) ∙ ascii-cons 98 rest (omega arith) ∙ digits_utf8 rest all)
     (ap not (digits_without 0x0A refl rest all)))
     (same-self (106 ∷ 111 ∷ 98 ∷ rest))
@@ -48,9 +49,9 @@ pub record IsJobName (name : List ℕ) : Type 0 where
 
 job_parts : (name : List ℕ) → is_job_name name ≡ true → (begins_with name (codes "job") ≡ true) × (list_all is_digit (drop 3 name) ≡ true)
 job_parts name e =
-    let three = left-true (begins_with name (codes "job") && (length name == 9) && list_all is_digit (drop 3 name)) (nat_le 1 (number_of (drop 3 name))) e in
-    let two = left-true (begins_with name (codes "job") && (length name == 9)) (list_all is_digit (drop 3 name)) three in
-    (left-true (begins_with name (codes "job")) (length name == 9) two, right-true (begins_with name (codes "job") && (length name == 9)) (list_all is_digit (drop 3 name)) three)
+    let three = (and_parts (begins_with name (codes "job") && (length name == 9) && list_all is_digit (drop 3 name)) (nat_le 1 (number_of (drop 3 name))) e).0 in
+    let two = (and_parts (begins_with name (codes "job") && (length name == 9)) (list_all is_digit (drop 3 name)) three).0 in
+    ((and_parts (begins_with name (codes "job")) (length name == 9) two).0, (and_parts (begins_with name (codes "job") && (length name == 9)) (list_all is_digit (drop 3 name)) three).1)
 
 begun : (name : List ℕ) → begins_with name (codes "job") ≡ true → list_all is_digit (drop 3 name) ≡ true → IsJobName name
 begun [] e all = absurd (let f : codes "job" ≡ [] = same-is (codes "job") [] e in cc)
@@ -71,12 +72,12 @@ above m h = grind (arith, nat_tests)
 
 padded : (n : ℕ) (ds : List ℕ) → Writes n ds → length ds ≤ 6 → 1 ≤ n → is_job_name (codes "job" ++ drop (length ds) (codes "000000") ++ ds) ≡ true
 padded n [] w short low = absurd (let f = w.some in cc)
-padded n (a ∷ []) w short low = both_true _ _ (both_true _ _ refl w.digits) (ap (nat_le 1) w.number ∙ above n low)
-padded n (a ∷ b ∷ []) w short low = both_true _ _ (both_true _ _ refl w.digits) (ap (nat_le 1) w.number ∙ above n low)
-padded n (a ∷ b ∷ c ∷ []) w short low = both_true _ _ (both_true _ _ refl w.digits) (ap (nat_le 1) w.number ∙ above n low)
-padded n (a ∷ b ∷ c ∷ d ∷ []) w short low = both_true _ _ (both_true _ _ refl w.digits) (ap (nat_le 1) w.number ∙ above n low)
-padded n (a ∷ b ∷ c ∷ d ∷ e ∷ []) w short low = both_true _ _ (both_true _ _ refl w.digits) (ap (nat_le 1) w.number ∙ above n low)
-padded n (a ∷ b ∷ c ∷ d ∷ e ∷ f ∷ []) w short low = both_true _ _ (both_true _ _ refl w.digits) (ap (nat_le 1) w.number ∙ above n low)
+padded n (a ∷ []) w short low = and_from _ _ (and_from _ _ refl w.digits) (ap (nat_le 1) w.number ∙ above n low)
+padded n (a ∷ b ∷ []) w short low = and_from _ _ (and_from _ _ refl w.digits) (ap (nat_le 1) w.number ∙ above n low)
+padded n (a ∷ b ∷ c ∷ []) w short low = and_from _ _ (and_from _ _ refl w.digits) (ap (nat_le 1) w.number ∙ above n low)
+padded n (a ∷ b ∷ c ∷ d ∷ []) w short low = and_from _ _ (and_from _ _ refl w.digits) (ap (nat_le 1) w.number ∙ above n low)
+padded n (a ∷ b ∷ c ∷ d ∷ e ∷ []) w short low = and_from _ _ (and_from _ _ refl w.digits) (ap (nat_le 1) w.number ∙ above n low)
+padded n (a ∷ b ∷ c ∷ d ∷ e ∷ f ∷ []) w short low = and_from _ _ (and_from _ _ refl w.digits) (ap (nat_le 1) w.number ∙ above n low)
 padded n (a ∷ b ∷ c ∷ d ∷ e ∷ f ∷ g ∷ more) w short low = absurd (omega arith)
 
 job_named : (n : ℕ) → 1 ≤ n → n ≤ 999999 → is_job_name (job_name n) ≡ true

@@ -3,6 +3,7 @@ use Rattle.std.proofs.Common.{◌≡◌, ◌≤◌, ◌<◌, ◌^◌, ℕ, zero,
 use Rattle.std.specs.Prelude.{◌&&◌, ◌||◌, ◌==◌, not, codes, decimal, map, sum, find, filter, nat_lt, nat_le, IfSome, IsSome, is_some, is_none, option_and_then, option_map, if◌then◌else◌}
 use Rattle.std.specs.List.{list_all}
 use Rattle.std.proofs.lemmas.Bool.Decides.{nat_tests}
+use Rattle.std.proofs.lemmas.Bool.{and_parts, or_right}
 use Rattle.hex.specs.Hex.{IsBytes}
 use Rattle.depot_rows.specs.depot_path.Bytes.{same}
 use Rattle.depot_rows.specs.depot_path.Digits.{number_of}
@@ -34,7 +35,7 @@ use Rattle.depot_rows.specs.depot_model.declared.request.Caller.{Caller}
 use Rattle.depot_rows.specs.depot_model.declared.request.Content.{Content}
 use Rattle.depot_rows.specs.depot_model.declared.request.Request.{Request}
 use Rattle.depot_rows.proofs.ChangeCounter.{change_of, top_value}
-use Rattle.depot_rows.proofs.Keys.{left-true, right-true, number-is}
+use Rattle.depot_rows.proofs.Keys.{number-is}
 use Rattle.depot_facts.specs.Fields.{number_of_field, has_value_of, is_number_of}
 use Rattle.sound_deeds.specs.Keeping.{ShelfKeeps, KeepsShelf, HasSource, IsTaken}
 use Rattle.depot_facts.proofs.OpenFiles.{ArePaths, are_paths}
@@ -48,10 +49,6 @@ use Rattle.depot_facts.proofs.Decimals.{written, numeral_decimal, number_decimal
 use Rattle.depot_facts.proofs.Spelled.{good_name}
 use Rattle.depot_facts.proofs.Steps.{AllOf, not_refused, all_filtered, passed, unless_all, over_any}
 use Rattle.depot_facts.proofs.Values.{good_path, good_decimal, type_named, good_content, content_is}
-
-or_true : (a b : Bool) → b ≡ true → (a || b) ≡ true
-or_true true b e = refl
-or_true false b e = e
 
 -- ---- values that are there
 
@@ -67,23 +64,23 @@ name_some (b ∷ name) e = grind (arith, nat_tests)
 
 bytes_are : (xs : List ℕ) → list_all (λ b. nat_lt b 256) xs ≡ true → IsBytes xs
 bytes_are [] e i = omega arith
-bytes_are (x ∷ xs) e zero = small x (left-true (nat_lt x 256) (list_all (λ b. nat_lt b 256) xs) e)
+bytes_are (x ∷ xs) e zero = small x (and_parts (nat_lt x 256) (list_all (λ b. nat_lt b 256) xs) e).0
   where
     small : (y : ℕ) → nat_lt y 256 ≡ true → y < 256
     small y h = grind (arith, nat_tests)
-bytes_are (x ∷ xs) e (suc i) = bytes_are xs (right-true (nat_lt x 256) (list_all (λ b. nat_lt b 256) xs) e) i
+bytes_are (x ∷ xs) e (suc i) = bytes_are xs (and_parts (nat_lt x 256) (list_all (λ b. nat_lt b 256) xs) e).1 i
 
 found_fits : (contents : List Content) (test : Content → Bool) → list_all fits_content contents ≡ true
     → IfSome (option_map (λ (c : Content). c.bytes) (find test contents)) (λ x. IsBytes x × (nat_le (length x) 8388608 ≡ true))
 found_fits [] test e = tt
-found_fits (c ∷ contents) test e = go (test c) (found_fits contents test (right-true (fits_content c) (list_all fits_content contents) e))
+found_fits (c ∷ contents) test e = go (test c) (found_fits contents test (and_parts (fits_content c) (list_all fits_content contents) e).1)
   where
     mine : fits_content c ≡ true
-    mine = left-true (fits_content c) (list_all fits_content contents) e
+    mine = (and_parts (fits_content c) (list_all fits_content contents) e).0
 
     go : (b : Bool) → IfSome (option_map (λ (x : Content). x.bytes) (find test contents)) (λ x. IsBytes x × (nat_le (length x) 8388608 ≡ true))
         → IfSome (option_map (λ (x : Content). x.bytes) (if b then Some c else find test contents)) (λ x. IsBytes x × (nat_le (length x) 8388608 ≡ true))
-    go true later = (bytes_are c.bytes (right-true (nat_le (length c.bytes) 8388608) (list_all (λ b. nat_lt b 256) c.bytes) mine), left-true (nat_le (length c.bytes) 8388608) _ mine)
+    go true later = (bytes_are c.bytes (and_parts (nat_le (length c.bytes) 8388608) (list_all (λ b. nat_lt b 256) c.bytes) mine).1, (and_parts (nat_le (length c.bytes) 8388608) _ mine).0)
     go false later = later
 
 module _ (d : List Deed) (sound : IsSound d) (request : Request) (contents : list_all fits_content request.contents ≡ true) where
@@ -164,8 +161,8 @@ module _ (d : List Deed) (sound : IsSound d) (request : Request) (contents : lis
     from_numeral : (source : Option Source) → ((s : Source) → source ≡ Some s → s.rev < 2 ^ 64) → (block : Option (List ℕ)) → is_number_of (made source block) (codes "FromRev") ≡ true
     from_numeral None few None = refl
     from_numeral None few (Some x) = refl
-    from_numeral (Some s) few None = or_true _ _ (ap is_numeral (value_back (decimal s.rev)) ∙ numeral_decimal s.rev (few s refl))
-    from_numeral (Some s) few (Some x) = or_true _ _ (ap is_numeral (value_back (decimal s.rev)) ∙ numeral_decimal s.rev (few s refl))
+    from_numeral (Some s) few None = or_right _ _ (ap is_numeral (value_back (decimal s.rev)) ∙ numeral_decimal s.rev (few s refl))
+    from_numeral (Some s) few (Some x) = or_right _ _ (ap is_numeral (value_back (decimal s.rev)) ∙ numeral_decimal s.rev (few s refl))
 
     has_path : (p : List ℕ) → is_path p ≡ true → nat_le 1 (length (printed p)) ≡ true
     has_path p is = go (printed p) (begins p is)
@@ -222,8 +219,8 @@ module _ (d : List Deed) (sound : IsSound d) (request : Request) (contents : lis
         → (not (has_value_of (made source block) (codes "Content")) || is_content_text (value_of (made source block) (codes "Content"))) ≡ true
     content_has None None h = refl
     content_has (Some s) None h = refl
-    content_has None (Some x) h = or_true (not (has_value_of (made None (Some x)) (codes "Content"))) _ (content_is x h.0 h.1)
-    content_has (Some s) (Some x) h = or_true (not (has_value_of (made (Some s) (Some x)) (codes "Content"))) _ (content_is x h.0 h.1)
+    content_has None (Some x) h = or_right (not (has_value_of (made None (Some x)) (codes "Content"))) _ (content_is x h.0 h.1)
+    content_has (Some s) (Some x) h = or_right (not (has_value_of (made (Some s) (Some x)) (codes "Content"))) _ (content_is x h.0 h.1)
 
     change_value : number_of_field (kept_form caller o (block_given d request o)) (codes "Change") ≡ o.change
     change_value = ap number_of (value_back (decimal o.change)) ∙ number_decimal o.change small
@@ -249,8 +246,8 @@ module _ (d : List Deed) (sound : IsSound d) (request : Request) (contents : lis
       is_path = known.pathed;
       path_is = value_back (printed o.path);
       named = sym (λ i. value_back (decimal o.change) i ++ 0x20 ∷ value_back (printed o.path) i);
-      numbers = λ i. or_true (not (has_value_of (kept_form caller o (block_given d request o)) (codes "Change"))) _ change_is i
-          && (or_true (not (has_value_of (kept_form caller o (block_given d request o)) (codes "Base"))) _ base_is i
+      numbers = λ i. or_right (not (has_value_of (kept_form caller o (block_given d request o)) (codes "Change"))) _ change_is i
+          && (or_right (not (has_value_of (kept_form caller o (block_given d request o)) (codes "Base"))) _ base_is i
           && (from_numeral o.source (λ s e. (source_small s e).3) (block_given d request o) i && true));
       change_is = change_is;
       change_fits = subst (λ (m : ℕ). m ≤ top d) (sym change_value) low;

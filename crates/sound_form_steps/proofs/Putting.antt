@@ -5,7 +5,7 @@ use Rattle.std.specs.List.{list_all, list_any}
 use Rattle.std.specs.Option.{option_or}
 use Rattle.std.specs.Str.{bytes_eq}
 use Rattle.std.proofs.lemmas.Bool.Decides.{nat_tests}
-use Rattle.std.proofs.lemmas.Bool.{not-true}
+use Rattle.std.proofs.lemmas.Bool.{not-true, and_parts}
 use Rattle.depot_rows.specs.depot_path.Bytes.{same, is_digit, is_among}
 use Rattle.depot_rows.specs.depot_path.Digits.{number_of, is_digits}
 use Rattle.depot_rows.specs.depot_path.Name.{is_name}
@@ -33,7 +33,7 @@ use Rattle.depot_rows.specs.depot_model.declared.refusal.Refusal.TheVariants.{No
 use Rattle.depot_rows.specs.depot_model.declared.refusal.Limit.TheVariants.{Fixes}
 use Rattle.depot_rows.specs.depot_model.declared.request.Caller.{Caller}
 use Rattle.depot_rows.proofs.ChangeCounter.{change_of, top_value}
-use Rattle.depot_rows.proofs.Keys.{same-is, same-self, left-true, right-true}
+use Rattle.depot_rows.proofs.Keys.{same-is, same-self}
 use Rattle.depot_facts.specs.Fields.{number_of_field}
 use Rattle.sound_deeds.specs.Keeping.{FixKeeps, JobKeeps, FixesFit, IsChange}
 use Rattle.depot_facts.proofs.Read.{spelled_reads, value_is}
@@ -56,29 +56,29 @@ use Rattle.sound_deeds.proofs.Ties.{fixes_fit}
 
 all_in : (Q test : List ℕ → Bool) (xs ys : List (List ℕ)) → list_all Q xs ≡ true → ((x : List ℕ) → Q x ≡ true → test x ≡ true → In ys x) → AllIn (filter test xs) ys
 all_in Q test [] ys e h = tt
-all_in Q test (x ∷ xs) ys e h = go (test x) refl (all_in Q test xs ys (right-true (Q x) (list_all Q xs) e) h)
+all_in Q test (x ∷ xs) ys e h = go (test x) refl (all_in Q test xs ys (and_parts (Q x) (list_all Q xs) e).1 h)
   where
     go : (b : Bool) → test x ≡ b → AllIn (filter test xs) ys → AllIn (if b then x ∷ filter test xs else filter test xs) ys
-    go true k later = (h x (left-true (Q x) (list_all Q xs) e) k, later)
+    go true k later = (h x (and_parts (Q x) (list_all Q xs) e).0 k, later)
     go false k later = later
 
 all_turn : (Q R : List ℕ → Bool) (xs : List (List ℕ)) → list_all Q xs ≡ true → ((x : List ℕ) → Q x ≡ true → R x ≡ true) → list_all R xs ≡ true
 all_turn Q R [] e h = refl
-all_turn Q R (x ∷ xs) e h = (λ i. h x (left-true (Q x) (list_all Q xs) e) i && list_all R xs) ∙ all_turn Q R xs (right-true (Q x) (list_all Q xs) e) h
+all_turn Q R (x ∷ xs) e h = (λ i. h x (and_parts (Q x) (list_all Q xs) e).0 i && list_all R xs) ∙ all_turn Q R xs (and_parts (Q x) (list_all Q xs) e).1 h
 
 -- ---- values
 
 good_value : (value : List ℕ) → is_value value ≡ true → GoodValue (value_lines value)
 good_value value e =
-    let two = left-true (is_utf8 value && not (is_among value 0x0A)) (bytes_eq (trimmed_start value) value) e in
+    let two = (and_parts (is_utf8 value && not (is_among value 0x0A)) (bytes_eq (trimmed_start value) value) e).0 in
     record {
       value = value;
       is = refl;
       clean = record {
-        one = not-true (is_among value 0x0A) (right-true (is_utf8 value) (not (is_among value 0x0A)) two);
-        utf8 = left-true (is_utf8 value) (not (is_among value 0x0A)) two;
+        one = not-true (is_among value 0x0A) (and_parts (is_utf8 value) (not (is_among value 0x0A)) two).1;
+        utf8 = (and_parts (is_utf8 value) (not (is_among value 0x0A)) two).0;
       };
-      trimmed = same-is (trimmed_start value) value (right-true (is_utf8 value && not (is_among value 0x0A)) (bytes_eq (trimmed_start value) value) e);
+      trimmed = same-is (trimmed_start value) value (and_parts (is_utf8 value && not (is_among value 0x0A)) (bytes_eq (trimmed_start value) value) e).1;
     }
 
 on_spelled : (name : List ℕ) (n : ℕ) (user : List ℕ) → is_job_name name ≡ true → is_name user ≡ true → IsSpelled FixForm (fix_form name n user (codes "on"))
@@ -113,9 +113,9 @@ module _ (d : List Deed) (sound : IsSound d) (n : ℕ) (all : List (List ℕ))
       go (Some form) e on =
           let value = value_is FixShape form (spelled_reads FixForm form (spelled d sound FixForm (fix_name name n) form e)) in
           let fix = saved_fix d sound (fix_name name n) form e in
-          let numeral : is_numeral (value_of form (codes "Change")) ≡ true = ap is_numeral (sym (value (codes "Change"))) ∙ left-true _ _ fix.change in
+          let numeral : is_numeral (value_of form (codes "Change")) ≡ true = ap is_numeral (sym (value (codes "Change"))) ∙ (and_parts _ _ fix.change).0 in
           let digits : list_all is_digit (value_of form (codes "Change")) ≡ true =
-          right-true _ (list_all is_digit (value_of form (codes "Change"))) (left-true (is_digits (value_of form (codes "Change"))) _ numeral) in
+          (and_parts _ (list_all is_digit (value_of form (codes "Change"))) (and_parts (is_digits (value_of form (codes "Change"))) _ numeral).0).1 in
           let names_same : name ++ 0x20 ∷ decimal n ≡ value_of form (codes "Job") ++ 0x20 ∷ value_of form (codes "Change") =
           fix.named ∙ (λ i. value (codes "Job") i ++ 0x20 ∷ value (codes "Change") i) in
           let parts = parts_is name (value_of form (codes "Job")) (decimal n) (value_of form (codes "Change")) (decimal_digits n) digits names_same in

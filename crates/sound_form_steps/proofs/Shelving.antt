@@ -3,6 +3,7 @@ use Rattle.std.proofs.Common.{◌≡◌, ◌≤◌, ℕ, Bool, true, false, List
 use Rattle.std.specs.Prelude.{codes, decimal, nat_lt, IfSome, is_some, is_none, unwrap_or, option_and_then, option_map, if◌then◌else◌}
 use Rattle.std.specs.List.{list_all}
 use Rattle.std.proofs.lemmas.Bool.Decides.{nat_tests}
+use Rattle.std.proofs.lemmas.Bool.{and_parts}
 use Rattle.depot_rows.specs.depot_path.Bytes.{same, is_digit, is_among}
 use Rattle.depot_rows.specs.depot_path.Digits.{number_of, is_digits}
 use Rattle.depot_rows.specs.depot_path.Path.{path_of, printed, is_path}
@@ -34,7 +35,7 @@ use Rattle.depot_rows.specs.depot_model.Values.{value_of, first_or_empty}
 use Rattle.depot_rows.specs.depot_model.declared.command.FileArgument.{FileArgument}
 use Rattle.depot_rows.specs.depot_model.declared.refusal.Refusal.TheVariants.{NotInView, AlreadyOpen}
 use Rattle.depot_rows.specs.depot_model.declared.request.Caller.{Caller}
-use Rattle.depot_rows.proofs.Keys.{same-is, left-true, right-true}
+use Rattle.depot_rows.proofs.Keys.{same-is}
 use Rattle.sound_deeds.specs.Keeping.{IsTaken, is_move}
 use Rattle.depot_facts.proofs.Read.{spelled_reads, value_is, has_is}
 use Rattle.sound_file_steps.proofs.Files.{named_change_ok}
@@ -77,9 +78,9 @@ module _ (d : List Deed) (sound : IsSound d) (n : ℕ) (path : List ℕ) (pathed
 
   no_space : is_among (value_of form (codes "Change")) 0x20 ≡ false
   no_space =
-      let numeral : is_numeral (value_of form (codes "Change")) ≡ true = ap is_numeral (sym (value (codes "Change"))) ∙ left-true _ _ shelf.change in
+      let numeral : is_numeral (value_of form (codes "Change")) ≡ true = ap is_numeral (sym (value (codes "Change"))) ∙ (and_parts _ _ shelf.change).0 in
       digits_without 0x20 refl (value_of form (codes "Change"))
-      (right-true _ (list_all is_digit (value_of form (codes "Change"))) (left-true (is_digits (value_of form (codes "Change"))) _ numeral))
+      (and_parts _ (list_all is_digit (value_of form (codes "Change"))) (and_parts (is_digits (value_of form (codes "Change"))) _ numeral).0).1
 
   -- the name's second half is the path
   path_text : value_of form (codes "Path") ≡ printed path

@@ -2,6 +2,7 @@
 use Rattle.std.proofs.Common.{◌≡◌, ℕ, ◌+◌, Bool, true, false, List, [], ◌∷◌, ◌++◌, Option, Some, None, Result, Ok, Err, refl, sym, ap, subst, ◌∙◌}
 use Rattle.std.specs.Prelude.{◌&&◌, ◌==◌, not, codes, map, filter, length, nat_lt, slice_get, is_ok, IfSome, ◌-◌, if◌then◌else◌}
 use Rattle.std.specs.List.{list_all, join_with_byte, onto_first}
+use Rattle.std.proofs.lemmas.Bool.{and_from, and_parts}
 use Rattle.depot_rows.specs.depot_path.Answers.{◌>>=◌, on_ok, on_err}
 use Rattle.depot_rows.specs.protect_table.Line.{line_of_words, lines_from, in_line, table_of as protects_of}
 use Rattle.depot_rows.specs.protect_table.Words.{parts_words, quoted_after, joined, between_spaces, is_word, is_comment, before_comment, words_of}
@@ -20,10 +21,9 @@ use Rattle.depot_rows.specs.depot_model.Steps.Protections.{kept_line, saved, pro
 use Rattle.depot_rows.specs.depot_model.declared.refusal.Refusal.TheVariants.{BadForm, OverLimit}
 use Rattle.depot_rows.specs.depot_model.declared.refusal.Limit.TheVariants.{Protections}
 use Rattle.depot_rows.specs.depot_model.declared.reply.Row.{Row}
-use Rattle.depot_rows.proofs.Keys.{left-true, right-true, number-is}
+use Rattle.depot_rows.proofs.Keys.{number-is}
 use Rattle.sound_deeds.proofs.Whole.{one_sound}
 use Rattle.depot_facts.proofs.Steps.{passed, unless_sound}
-use Rattle.depot_facts.proofs.Tests.{both_true}
 
 -- whether what follows a word stands in quotes, and whether no space parts it
 abbrev state : Bool → List ℕ → Bool
@@ -76,8 +76,8 @@ put_first q b (w ∷ ws) e good = ((λ i. not (e i) && good.0 i), good.1, good.2
 
 parting : (q : Bool) (b : ℕ) → parts_words q b ≡ true → (q ≡ false) × (quoted_after q b ≡ false)
 parting q b e =
-    let space : b ≡ 0x20 = number-is b 0x20 (left-true (b == 0x20) (not q) e) in
-    let outside : q ≡ false = is_not q (right-true (b == 0x20) (not q) e) in
+    let space : b ≡ 0x20 = number-is b 0x20 (and_parts (b == 0x20) (not q) e).0 in
+    let outside : q ≡ false = is_not q (and_parts (b == 0x20) (not q) e).1 in
     (outside, ap (quoted_after q) space ∙ outside)
   where
     is_not : (p : Bool) → not p ≡ true → p ≡ false
@@ -132,11 +132,11 @@ filter_same (w ∷ ws) e = go (is_word w) e (filter_same ws)
 
 before_words : (ws : List (List ℕ)) → list_all is_word ws ≡ true → list_all is_word (before_comment ws) ≡ true
 before_words [] e = refl
-before_words (w ∷ ws) e = go (is_comment w) (left-true (is_word w) (list_all is_word ws) e) (before_words ws (right-true (is_word w) (list_all is_word ws) e))
+before_words (w ∷ ws) e = go (is_comment w) (and_parts (is_word w) (list_all is_word ws) e).0 (before_words ws (and_parts (is_word w) (list_all is_word ws) e).1)
   where
     go : (b : Bool) → is_word w ≡ true → list_all is_word (before_comment ws) ≡ true → list_all is_word (if b then [] else w ∷ before_comment ws) ≡ true
     go true h later = refl
-    go false h later = both_true (is_word w) (list_all is_word (before_comment ws)) h later
+    go false h later = and_from (is_word w) (list_all is_word (before_comment ws)) h later
 
 before_twice : (ws : List (List ℕ)) → before_comment (before_comment ws) ≡ before_comment ws
 before_twice [] = refl

@@ -4,6 +4,7 @@ use Rattle.std.specs.Prelude.{◌&&◌, ◌||◌, ◌==◌, IsTrue, IfSome, IsSo
 use Rattle.std.specs.List.{list_all, list_any}
 use Rattle.std.specs.Option.{option_or}
 use Rattle.std.proofs.lemmas.Option.{same_Some}
+use Rattle.std.proofs.lemmas.Bool.{and_parts}
 use Rattle.depot_rows.specs.depot_path.Bytes.{same}
 use Rattle.depot_rows.specs.depot_path.Digits.{number_of}
 use Rattle.depot_rows.specs.spec_form.Form.{FormValue, with_field, has_field}
@@ -22,7 +23,7 @@ use Rattle.depot_rows.specs.depot_model.Rules.{IsSound, IsRow, IsForm, IsJob, Is
 use Rattle.depot_rows.specs.depot_model.Step.{after}
 use Rattle.depot_rows.specs.depot_model.Values.{value_of}
 use Rattle.depot_rows.proofs.Entries.{In}
-use Rattle.depot_rows.proofs.Keys.{same-is, same-self, number-self, left-true, right-true}
+use Rattle.depot_rows.proofs.Keys.{same-is, same-self, number-self}
 use Rattle.depot_facts.specs.Fields.{number_of_field}
 use Rattle.sound_deeds.specs.Keeping.{FixKeeps, JobKeeps, FixesFit, HasNoFix}
 use Rattle.depot_facts.proofs.Read.{spelled_reads, value_is}
@@ -50,8 +51,8 @@ digits_field name (b ∷ bs) form e numeral = has_value name form.fields b bs e
 all_turn : (test other : List ℕ → Bool) (names : List (List ℕ)) → ((x : List ℕ) → test x ≡ true → other x ≡ true) → list_all test names ≡ true → list_all other names ≡ true
 all_turn test other [] each all = refl
 all_turn test other (x ∷ names) each all =
-    let here = each x (left-true (test x) (list_all test names) all) in
-    let rest = all_turn test other names each (right-true (test x) (list_all test names) all) in
+    let here = each x (and_parts (test x) (list_all test names) all).0 in
+    let rest = all_turn test other names each (and_parts (test x) (list_all test names) all).1 in
     (λ i. here i && rest i)
 
 module _ (d : List Deed) (sound : IsSound d) (n m : ℕ) (small : m ≤ 2147483647) (above : (n == m) ≡ false → top d < m) where

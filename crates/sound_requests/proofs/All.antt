@@ -2,6 +2,7 @@
 use Rattle.std.proofs.Common.{◌≡◌, true, List, Result, Ok, Err, refl, sym, subst}
 use Rattle.std.specs.Prelude.{◌&&◌, IfOk}
 use Rattle.std.specs.List.{list_all}
+use Rattle.std.proofs.lemmas.Bool.{and_parts}
 use Rattle.depot_rows.specs.depot_path.Name.{is_name}
 use Rattle.depot_rows.specs.depot_model.Commands.{whole_step, step}
 use Rattle.depot_rows.specs.depot_model.Common.{word_refusal}
@@ -13,7 +14,6 @@ use Rattle.depot_rows.specs.depot_model.declared.command.Command.{Command}
 use Rattle.depot_rows.specs.depot_model.declared.command.Command.TheVariants.{SubmitChange, SubmitDefault}
 use Rattle.depot_rows.specs.depot_model.declared.request.Request.{Request}
 use Rattle.depot_rows.specs.depot_model.declared.request.WordFault.{WordFault}
-use Rattle.depot_rows.proofs.Keys.{left-true, right-true}
 use Rattle.depot_facts.proofs.Steps.{both_all}
 use Rattle.sound_landing.proofs.Kept.{submit_default_sound, submit_change_sound}
 use Rattle.sound_form_steps.specs.Contents.{fits_content, is_short, is_of_bytes}
@@ -23,8 +23,7 @@ use Rattle.sound_requests.proofs.Whole.{step_sound}
 module _ (d : List Deed) (request : Request) (sound : IsSound d) (contents : list_all fits_content request.contents ≡ true) where
   user_named : (command : Command) → is_named request command ≡ true → is_name (request.caller).user ≡ true
   user_named command named =
-      left-true (is_name (request.caller).user) (is_name (request.caller).client)
-      (left-true (is_name (request.caller).user && is_name (request.caller).client) (names_what command) named)
+      (and_parts (is_name (request.caller).user) (is_name (request.caller).client) (and_parts (is_name (request.caller).user && is_name (request.caller).client) (names_what command) named).0).0
 
   other : (command : Command) → request.command ≡ Ok command → is_command command ≡ true → is_named request command ≡ true → is_covered command ≡ true
       → IsSound (after d (step d request).deeds)
@@ -52,10 +51,10 @@ pub asked_sound : (d : List Deed) (request : Request) → IsSound d → IsAsked 
 asked_sound d request sound asked typed = go request.command refl
   where
     contents : list_all fits_content request.contents ≡ true
-    contents = both_all is_short is_of_bytes request.contents asked.short (right-true (are_named request) (list_all is_of_bytes request.contents) typed)
+    contents = both_all is_short is_of_bytes request.contents asked.short (and_parts (are_named request) (list_all is_of_bytes request.contents) typed).1
 
     named : are_named request ≡ true
-    named = left-true (are_named request) (list_all is_of_bytes request.contents) typed
+    named = (and_parts (are_named request) (list_all is_of_bytes request.contents) typed).0
 
     go : (r : Result Command WordFault) → request.command ≡ r → IsSound (after d (step d request).deeds)
     go (Ok command) e =

@@ -2,6 +2,7 @@
 use Rattle.std.proofs.Common.{◌≡◌, Bool, true, false, List, [], ◌++◌, Some, None, Result, Ok, Err, refl, sym, subst}
 use Rattle.std.specs.Prelude.{◌&&◌, not, unwrap_or}
 use Rattle.std.specs.List.{list_all}
+use Rattle.std.proofs.lemmas.Bool.{and_parts}
 use Rattle.depot_rows.specs.depot_path.Name.{is_name}
 use Rattle.depot_rows.specs.depot_model.About.{about}
 use Rattle.depot_rows.specs.depot_model.Asking.{is_client}
@@ -19,7 +20,6 @@ use Rattle.depot_rows.specs.depot_model.declared.refusal.Refusal.TheVariants.{No
 use Rattle.depot_rows.specs.depot_model.declared.request.Request.{Request}
 use Rattle.depot_rows.specs.depot_model.declared.request.WordFault.{WordFault}
 use Rattle.depot_rows.proofs.depot_model.Counting.{counted_is_sound}
-use Rattle.depot_rows.proofs.Keys.{left-true, right-true}
 use Rattle.sound_form_steps.specs.Contents.{fits_content}
 use Rattle.sound_requests.specs.Asked.{is_named, is_covered, names_what}
 use Rattle.sound_form_steps.proofs.ChangeForms.{change_save_sound}
@@ -74,8 +74,8 @@ module _ (d : List Deed) (request : Request) (sound : IsSound d) (user : is_name
   own_sound ProtectSave formed named covered asked = protect_sound d sound (unwrap_or request.input [])
   own_sound (Where paths) formed named covered asked = where_sound d sound request.caller paths
   own_sound (Add change type paths) formed named covered asked =
-      add_sound d sound request.caller (asked.saved refl) change type paths (left-true (is_type_or_none type) (list_all spells_path paths) formed)
-      (right-true (is_type_or_none type) (list_all spells_path paths) formed)
+      add_sound d sound request.caller (asked.saved refl) change type paths (and_parts (is_type_or_none type) (list_all spells_path paths) formed).0
+      (and_parts (is_type_or_none type) (list_all spells_path paths) formed).1
   own_sound (Edit change type files) formed named covered asked = edit_sound d sound request.caller (asked.saved refl) change type formed files
   own_sound (Delete change files) formed named covered asked = delete_sound d sound request.caller (asked.saved refl) change files
   own_sound (Revert change files) formed named covered asked = revert_sound d request.caller sound change files
@@ -130,5 +130,5 @@ pub step_sound : (d : List Deed) (request : Request) (command : Command) → req
 step_sound d request command e sound formed named contents covered =
     subst (λ (r : Result Command WordFault). IsSound (after d (elim r as (λ _. Step) [ Err fault ↦ refuses (word_refusal fault) | Ok c ↦ whole_step d request c ]).deeds))
     (sym e) (whole_sound d request sound
-    (left-true (is_name (request.caller).user) (is_name (request.caller).client) (left-true _ (names_what command) named))
-    (right-true (is_name (request.caller).user) (is_name (request.caller).client) (left-true _ (names_what command) named)) contents command formed (right-true _ (names_what command) named) covered)
+    (and_parts (is_name (request.caller).user) (is_name (request.caller).client) (and_parts _ (names_what command) named).0).0
+    (and_parts (is_name (request.caller).user) (is_name (request.caller).client) (and_parts _ (names_what command) named).0).1 contents command formed (and_parts _ (names_what command) named).1 covered)

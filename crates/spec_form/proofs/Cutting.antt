@@ -2,6 +2,7 @@
 use Rattle.std.proofs.Common.{◌≡◌, ℕ, zero, suc, ◌<◌, ◌≤◌, ◌==◌, Bool, true, false, ◌||◌, cond, List, [], ◌∷◌, ◌++◌, length, refl, sym, ap, subst, ◌∙◌, arith}
 use Rattle.std.specs.List.{AllByRecursion}
 use Rattle.std.proofs.lemmas.Bool.Decides.{nat_tests}
+use Rattle.std.proofs.lemmas.Bool.{or_parts, or_right}
 use Rattle.depot_path.specs.Bytes.{is_among}
 use Rattle.depot_path.specs.Utf8.{is_utf8}
 use Rattle.spec_form.proofs.Utf8.{cond_true, cond_false, utf8_front, utf8_rest}
@@ -40,14 +41,6 @@ behind_shorter c (b ∷ text) =
 eqb_self : (c : ℕ) → (c == c) ≡ true
 eqb_self c = grind (arith, nat_tests)
 
-or_first : (v w : Bool) → (v || w) ≡ false → v ≡ false
-or_first true w h = absurd cc
-or_first false w h = refl
-
-or_rest : (v w : Bool) → (v || w) ≡ false → w ≡ false
-or_rest true w h = absurd cc
-or_rest false w h = h
-
 or_both : (v w u : Bool) → (v || w) ≡ false → u ≡ false → (v || u) ≡ false
 or_both true w u h k = absurd cc
 or_both false w u h k = k
@@ -77,9 +70,9 @@ before_none c (b ∷ text) = before_if c b text (b == c) refl (before_none c tex
 
 among_if : (c x b : ℕ) (text : List ℕ) (v : Bool) → ((b == x) || is_among text x) ≡ false → (is_among text x ≡ false → is_among (before c text) x ≡ false × is_among (behind c text) x ≡ false) →
     is_among (cond v [] (b ∷ before c text)) x ≡ false × is_among (cond v text (behind c text)) x ≡ false
-among_if c x b text true h k = (refl, or_rest (b == x) (is_among text x) h)
+among_if c x b text true h k = (refl, (or_parts (b == x) (is_among text x) h).1)
 among_if c x b text false h k =
-    let parts : is_among (before c text) x ≡ false × is_among (behind c text) x ≡ false = k (or_rest (b == x) (is_among text x) h) in
+    let parts : is_among (before c text) x ≡ false × is_among (behind c text) x ≡ false = k (or_parts (b == x) (is_among text x) h).1 in
     (or_both (b == x) (is_among text x) (is_among (before c text) x) h parts.0, parts.1)
 
 -- a byte that a text lacks, its parts lack
@@ -91,30 +84,26 @@ among_parts c x (b ∷ text) h = among_if c x b text (b == c) h (among_parts c x
 pub before_at : (c : ℕ) (front rest : List ℕ) → is_among front c ≡ false → before c (front ++ c ∷ rest) ≡ front
 before_at c [] rest h = cond_true (c == c) [] _ (eqb_self c)
 before_at c (b ∷ front) rest h =
-    cond_false (b == c) [] _ (or_first (b == c) (is_among front c) h) ∙ ap (λ (l : List ℕ). b ∷ l) (before_at c front rest (or_rest (b == c) (is_among front c) h))
+    cond_false (b == c) [] _ (or_parts (b == c) (is_among front c) h).0 ∙ ap (λ (l : List ℕ). b ∷ l) (before_at c front rest (or_parts (b == c) (is_among front c) h).1)
 
 pub behind_at : (c : ℕ) (front rest : List ℕ) → is_among front c ≡ false → behind c (front ++ c ∷ rest) ≡ rest
 behind_at c [] rest h = cond_true (c == c) rest _ (eqb_self c)
 behind_at c (b ∷ front) rest h =
-    cond_false (b == c) _ _ (or_first (b == c) (is_among front c) h) ∙ behind_at c front rest (or_rest (b == c) (is_among front c) h)
-
-or_true : (v w : Bool) → w ≡ true → (v || w) ≡ true
-or_true true w h = refl
-or_true false w h = h
+    cond_false (b == c) _ _ (or_parts (b == c) (is_among front c) h).0 ∙ behind_at c front rest (or_parts (b == c) (is_among front c) h).1
 
 pub among_at : (c : ℕ) (front rest : List ℕ) → is_among (front ++ c ∷ rest) c ≡ true
 among_at c [] rest = rw (eqb_self c) refl
-among_at c (b ∷ front) rest = or_true (b == c) (is_among (front ++ c ∷ rest) c) (among_at c front rest)
+among_at c (b ∷ front) rest = or_right (b == c) (is_among (front ++ c ∷ rest) c) (among_at c front rest)
 
 pub among-append : (x : ℕ) (front rest : List ℕ) → is_among front x ≡ false → is_among rest x ≡ false → is_among (front ++ rest) x ≡ false
 among-append x [] rest h k = k
-among-append x (b ∷ front) rest h k = or_both (b == x) (is_among front x) (is_among (front ++ rest) x) h (among-append x front rest (or_rest (b == x) (is_among front x) h) k)
+among-append x (b ∷ front) rest h k = or_both (b == x) (is_among front x) (is_among (front ++ rest) x) h (among-append x front rest (or_parts (b == x) (is_among front x) h).1 k)
 
 -- a line, its end, and what follows
 pub line_then : (line rest : List ℕ) → is_among line 0x0A ≡ false → text_lines (line ++ 0x0A ∷ rest) ≡ line ∷ text_lines rest
 line_then [] rest h = refl
 line_then (b ∷ line) rest h =
-    cond_false (b == 0x0A) _ _ (or_first (b == 0x0A) (is_among line 0x0A) h) ∙ ap (onto_first b) (line_then line rest (or_rest (b == 0x0A) (is_among line 0x0A) h))
+    cond_false (b == 0x0A) _ _ (or_parts (b == 0x0A) (is_among line 0x0A) h).0 ∙ ap (onto_first b) (line_then line rest (or_parts (b == 0x0A) (is_among line 0x0A) h).1)
 
 -- ---- the lines of a text of UTF-8 are lines of UTF-8
 
@@ -151,9 +140,9 @@ clean_lines text u = clean_within (length text) text (omega arith) u
 pub before_whole : (c : ℕ) (text : List ℕ) → is_among text c ≡ false → before c text ≡ text
 before_whole c [] h = refl
 before_whole c (b ∷ text) h =
-    cond_false (b == c) [] _ (or_first (b == c) (is_among text c) h) ∙ ap (λ (l : List ℕ). b ∷ l) (before_whole c text (or_rest (b == c) (is_among text c) h))
+    cond_false (b == c) [] _ (or_parts (b == c) (is_among text c) h).0 ∙ ap (λ (l : List ℕ). b ∷ l) (before_whole c text (or_parts (b == c) (is_among text c) h).1)
 
 pub behind_none : (c : ℕ) (text : List ℕ) → is_among text c ≡ false → behind c text ≡ []
 behind_none c [] h = refl
 behind_none c (b ∷ text) h =
-    cond_false (b == c) _ _ (or_first (b == c) (is_among text c) h) ∙ behind_none c text (or_rest (b == c) (is_among text c) h)
+    cond_false (b == c) _ _ (or_parts (b == c) (is_among text c) h).0 ∙ behind_none c text (or_parts (b == c) (is_among text c) h).1

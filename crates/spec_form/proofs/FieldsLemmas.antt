@@ -8,6 +8,7 @@ use Rattle.std.proofs.lemmas.List.{reverse-append, map-append}
 use Rattle.indexmap.specs.IndexMap.{set_value_at}
 use Rattle.std.specs.Prelude.{Vec}
 use Rattle.std.specs.declared.alloc.Global.{Global}
+use Rattle.std.proofs.lemmas.Bool.{or_from}
 use Rattle.spec_form.specs.declared.form.Field.{Field}
 use Rattle.spec_form.specs.declared.shape.Shape.{Shape}
 use Rattle.spec_form.specs.Shapes.{kind_of}
@@ -187,12 +188,8 @@ apart_from : (name k : List ℕ) (front : List Field) (rest : List (List ℕ)) �
 apart_from name k [] rest h = h.0
 apart_from name k (f ∷ front) rest h = apart_from name k front rest h.1
 
-none_or : (v w : Bool) → v ≡ false → w ≡ false → (v || w) ≡ false
-none_or true w e h = absurd cc
-none_or false w e h = h
-
 -- a name that comes later is none of those before it
 pub not_before : (k : List ℕ) (front : List Field) (rest : List (List ℕ)) → IsDistinct bytes_eq (names front ++ k ∷ rest) → has_field k front ≡ false
 unfolding IsDistinct
 not_before k [] rest h = refl
-not_before k (f ∷ front) rest h = none_or (bytes_eq f.name k) (has_field k front) (apart_from f.name k front rest h.0) (not_before k front rest h.1)
+not_before k (f ∷ front) rest h = or_from (bytes_eq f.name k) (has_field k front) (apart_from f.name k front rest h.0) (not_before k front rest h.1)

@@ -2,6 +2,7 @@
 use Rattle.std.proofs.Common.{◌≡◌, ℕ, ◌==◌, Bool, true, false, ◌&&◌, not, cond, List, [], ◌∷◌, ◌++◌, Some, refl, subst}
 use Rattle.std.specs.Str.{bytes_eq}
 use Rattle.std.proofs.lemmas.Slice.Eq.{bytes_eq-Decides}
+use Rattle.std.proofs.lemmas.Bool.{and_parts}
 use Rattle.depot_path.specs.Bytes.{is_among}
 use Rattle.depot_path.specs.Utf8.{is_utf8}
 use Rattle.spec_form.specs.declared.shape.Shape.{Shape}
@@ -34,14 +35,6 @@ shape_names Shelf = refl
 shape_names Job = refl
 shape_names Fix = refl
 
-pub and_first : (v w : Bool) → (v && w) ≡ true → v ≡ true
-and_first true w h = refl
-and_first false w h = absurd cc
-
-pub and_rest : (v w : Bool) → (v && w) ≡ true → w ≡ true
-and_rest true w h = h
-and_rest false w h = absurd cc
-
 pub not_true : (v : Bool) → not v ≡ true → v ≡ false
 not_true true h = absurd cc
 not_true false h = refl
@@ -57,8 +50,8 @@ found_name row rows name kind false e h k found = k found
 name_in : (rows : List FieldRow) (name : List ℕ) (kind : FieldKind) → all_names rows ≡ true → kind_in rows name ≡ Some kind → is_field_name name ≡ true
 name_in [] name kind h e = absurd cc
 name_in (row ∷ rows) name kind h e =
-    found_name row rows name kind (bytes_eq row.name name) refl (and_first (is_field_name row.name) (all_names rows) h)
-    (name_in rows name kind (and_rest (is_field_name row.name) (all_names rows) h)) e
+    found_name row rows name kind (bytes_eq row.name name) refl (and_parts (is_field_name row.name) (all_names rows) h).0
+    (name_in rows name kind (and_parts (is_field_name row.name) (all_names rows) h).1) e
 
 -- what is known of a name that forms of some shape have
 pub record IsFieldName (name : List ℕ) : Type 0 where
@@ -70,22 +63,22 @@ pub record IsFieldName (name : List ℕ) : Type 0 where
 pub field_name : (shape : Shape) (name : List ℕ) (kind : FieldKind) → kind_of shape name ≡ Some kind → IsFieldName name
 field_name shape name kind e =
     let all = name_in (fields_of shape) name kind (shape_names shape) e in
-    let three = and_first _ (is_utf8 name) all in
-    let two = and_first _ (not (is_among name 0x0A)) three in
+    let three = (and_parts _ (is_utf8 name) all).0 in
+    let two = (and_parts _ (not (is_among name 0x0A)) three).0 in
     record {
-      begins_line = and_first (begins name) _ two;
-      no_colon = not_true (is_among name 0x3A) (and_rest (begins name) _ two);
-      one_line = not_true (is_among name 0x0A) (and_rest _ (not (is_among name 0x0A)) three);
-      utf8 = and_rest _ (is_utf8 name) all;
+      begins_line = (and_parts (begins name) _ two).0;
+      no_colon = not_true (is_among name 0x3A) (and_parts (begins name) _ two).1;
+      one_line = not_true (is_among name 0x0A) (and_parts _ (not (is_among name 0x0A)) three).1;
+      utf8 = (and_parts _ (is_utf8 name) all).1;
     }
 
 not_skipped : (name rest : List ℕ) → begins name ≡ true → is_skipped (name ++ rest) ≡ false
 not_skipped [] rest h = absurd cc
-not_skipped (b ∷ name) rest h = not_true (b == 0x23) (and_first _ _ h)
+not_skipped (b ∷ name) rest h = not_true (b == 0x23) (and_parts _ _ h).0
 
 not_further : (name rest : List ℕ) → begins name ≡ true → is_further (name ++ rest) ≡ false
 not_further [] rest h = absurd cc
-not_further (b ∷ name) rest h = not_true (is_blank b) (and_rest _ _ h)
+not_further (b ∷ name) rest h = not_true (is_blank b) (and_parts _ _ h).1
 
 pub name_begins : (name rest : List ℕ) → IsFieldName name → (is_skipped (name ++ rest) ≡ false) × (is_further (name ++ rest) ≡ false)
 name_begins name rest h = (not_skipped name rest h.begins_line, not_further name rest h.begins_line)

@@ -2,6 +2,7 @@
 use Rattle.std.proofs.Common.{◌≡◌, ℕ, ◌<◌, ◌≤◌, ◌==◌, Bool, true, false, ◌||◌, cond, List, [], ◌∷◌, ◌++◌, length, reverse, refl, sym, ap, ◌∙◌, arith}
 use Rattle.std.proofs.lemmas.Bool.Decides.{nat_tests}
 use Rattle.std.proofs.lemmas.List.{reverse-append, reverse-reverse}
+use Rattle.std.proofs.lemmas.Bool.{or_parts}
 use Rattle.depot_path.specs.Bytes.{is_among}
 use Rattle.depot_path.specs.Utf8.{is_utf8}
 use Rattle.spec_form.specs.Texts.{is_blank, trimmed_start, trimmed_end}
@@ -68,13 +69,9 @@ among_cond : (v : Bool) (x y : List ℕ) (c : ℕ) → is_among x c ≡ false �
 among_cond true x y c h k = h
 among_cond false x y c h k = k
 
-or_rest : (v w : Bool) → (v || w) ≡ false → w ≡ false
-or_rest true w h = absurd cc
-or_rest false w h = h
-
 pub among_start : (line : List ℕ) (c : ℕ) → is_among line c ≡ false → is_among (trimmed_start line) c ≡ false
 among_start [] c h = refl
-among_start (b ∷ line) c h = among_cond (is_blank b) (trimmed_start line) (b ∷ line) c (among_start line c (or_rest (b == c) (is_among line c) h)) h
+among_start (b ∷ line) c h = among_cond (is_blank b) (trimmed_start line) (b ∷ line) c (among_start line c (or_parts (b == c) (is_among line c) h).1) h
 
 pub or_turn : (u v w : Bool) → (u || (v || w)) ≡ (v || (u || w))
 or_turn true true w = refl

@@ -2,6 +2,7 @@
 use Rattle.std.proofs.Common.{◌≡◌, ℕ, Bool, true, false, ◌&&◌, ◌||◌, not, cond, List, [], ◌∷◌, ◌++◌, map, reverse, Option, Some, None, refl, sym, ap, ◌∙◌}
 use Rattle.std.specs.Str.{bytes_eq}
 use Rattle.std.proofs.lemmas.List.{reverse-append, map-append}
+use Rattle.std.proofs.lemmas.Bool.{and_parts}
 use Rattle.depot_path.specs.Bytes.{is_among}
 use Rattle.depot_path.specs.Utf8.{is_utf8}
 use Rattle.spec_form.specs.declared.shape.Shape.{Shape}
@@ -14,7 +15,7 @@ use Rattle.spec_form.specs.Form.{FormValue, has_field, value_lines, is_value, is
 use Rattle.spec_form.specs.Reading.{lacks}
 use Rattle.spec_form.specs.Printing.{printed_form, ReadsBack}
 use Rattle.spec_form.proofs.Good.{GoodValue, GoodField, Good, is_read}
-use Rattle.spec_form.proofs.Names.{and_first, and_rest, not_true, same_bytes}
+use Rattle.spec_form.proofs.Names.{not_true, same_bytes}
 use Rattle.spec_form.proofs.Printed.{read_reads_back}
 
 pub map_reverse : {X Y : Type 0} (f : X → Y) (xs : List X) → map f (reverse xs) ≡ reverse (map f xs)
@@ -59,15 +60,15 @@ good_with shape name value (f ∷ fields) k v g = (
 
 good_value : (value : List ℕ) → is_value value ≡ true → GoodValue (value_lines value)
 good_value value h =
-    let two = and_first (is_utf8 value && not (is_among value 0x0A)) (bytes_eq (trimmed_start value) value) h in
+    let two = (and_parts (is_utf8 value && not (is_among value 0x0A)) (bytes_eq (trimmed_start value) value) h).0 in
     record {
       value = value;
       is = refl;
       clean = record {
-        one = not_true (is_among value 0x0A) (and_rest (is_utf8 value) (not (is_among value 0x0A)) two);
-        utf8 = and_first (is_utf8 value) (not (is_among value 0x0A)) two;
+        one = not_true (is_among value 0x0A) (and_parts (is_utf8 value) (not (is_among value 0x0A)) two).1;
+        utf8 = (and_parts (is_utf8 value) (not (is_among value 0x0A)) two).0;
       };
-      trimmed = same_bytes (trimmed_start value) value (and_rest (is_utf8 value && not (is_among value 0x0A)) (bytes_eq (trimmed_start value) value) h);
+      trimmed = same_bytes (trimmed_start value) value (and_parts (is_utf8 value && not (is_among value 0x0A)) (bytes_eq (trimmed_start value) value) h).1;
     }
 
 single_kind : (kind : Option FieldKind) → is_single kind ≡ true → kind ≡ Some Single
@@ -77,7 +78,7 @@ single_kind None e = absurd cc
 
 pub with_reads_back : (form : FormValue) (name value : List ℕ) → ReadsBack form → has_single name form ≡ true → is_value value ≡ true → ReadsBack (record form { fields = map (with_value name value) form.fields })
 with_reads_back form name value b h v =
-    let k = single_kind (kind_of form.shape name) (and_first (is_single (kind_of form.shape name)) (has_field name form.fields) h) in
+    let k = single_kind (kind_of form.shape name) (and_parts (is_single (kind_of form.shape name)) (has_field name form.fields) h).0 in
     let r = is_read form.shape (printed_form form) form b in
     let turn = map_reverse (with_value name value) r.fields in
     read_reads_back (record form { fields = map (with_value name value) form.fields }) (record {

@@ -4,7 +4,7 @@ use Rattle.std.specs.List.{cons_option, list_all}
 use Rattle.std.specs.Option.{option_to_list}
 use Rattle.std.specs.declared.alloc.AllocError.{AllocError}
 use Rattle.std.specs.Prelude.{IfOk, filter_map, map, length, codes, option_map}
-use Rattle.depot_rows.proofs.Keys.{left-true}
+use Rattle.std.proofs.lemmas.Bool.{and_parts}
 use Rattle.depot_rows.specs.depot_path.Name.{is_name}
 use Rattle.depot_rows.specs.spec_form.Form.{FormValue}
 use Rattle.depot_rows.specs.table_changes.Changed.{AllRows}
@@ -60,7 +60,7 @@ label_bare name (Some form) = refl
 
 pub first_named : (lines : List (List ℕ)) (line : List ℕ) → 1 ≤ length lines → line ≡ get_or lines 0 line → list_all is_name lines ≡ true → is_name line ≡ true
 first_named [] line h e all = absurd (omega arith)
-first_named (first ∷ lines) line h e all = ap is_name e ∙ left-true (is_name first) (list_all is_name lines) all
+first_named (first ∷ lines) line h e all = ap is_name e ∙ (and_parts (is_name first) (list_all is_name lines) all).0
 
 -- ---- rows of labels
 

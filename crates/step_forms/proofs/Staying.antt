@@ -4,6 +4,7 @@ use Rattle.std.specs.Prelude.{◌&&◌}
 use Rattle.std.specs.List.{list_all, list_any}
 use Rattle.std.specs.Option.{option_or}
 use Rattle.std.proofs.lemmas.List.{reverse-append}
+use Rattle.std.proofs.lemmas.Bool.{and_parts}
 use Rattle.depot_model.specs.depot_path.Bytes.{same}
 use Rattle.depot_model.specs.db_records.declared.table.TableId.{TableId}
 use Rattle.depot_model.specs.db_records.declared.table.TableId.TheVariants.{Domain}
@@ -11,7 +12,7 @@ use Rattle.depot_model.specs.Deeds.{Deed, SpecKind, Spec}
 use Rattle.depot_model.specs.Latest.{latest, when, kind_word, same_kind, spec, spec_said}
 use Rattle.depot_model.specs.Step.{after}
 use Rattle.depot_model.specs.Tables.{is_in}
-use Rattle.depot_rows.proofs.Keys.{same-is, left-true, right-true}
+use Rattle.depot_rows.proofs.Keys.{same-is}
 use Rattle.step_tables.specs.DeedTables.{stays_in}
 use Rattle.step_forms.specs.SavedForms.{is_kind_in, saves_in}
 
@@ -34,21 +35,21 @@ module _ (kinds : List SpecKind) (kind : SpecKind) (away : is_kind_in kinds kind
   pub form_stays : (d deeds : List Deed) → list_all (saves_in kinds) deeds ≡ true → spec (after d deeds) kind name ≡ spec d kind name
   form_stays d [] all = refl
   form_stays d (deed ∷ deeds) all =
-      form_stays (deed ∷ d) deeds (right-true (saves_in kinds deed) (list_all (saves_in kinds) deeds) all)
-      ∙ one_stays d deed (left-true (saves_in kinds deed) (list_all (saves_in kinds) deeds) all)
+      form_stays (deed ∷ d) deeds (and_parts (saves_in kinds deed) (list_all (saves_in kinds) deeds) all).1
+      ∙ one_stays d deed (and_parts (saves_in kinds deed) (list_all (saves_in kinds) deeds) all).0
 
 -- ---- deeds that stay out of the table of forms save none
 
 none_saved : (tables : List TableId) (kinds : List SpecKind) → is_in tables Domain ≡ false → (deed : Deed) → stays_in tables deed ≡ true → saves_in kinds deed ≡ true
-none_saved tables kinds away (Spec kind name form) e = absurd (let both : true ≡ false = sym (left-true (is_in tables Domain) true e) ∙ away in cc)
+none_saved tables kinds away (Spec kind name form) e = absurd (let both : true ≡ false = sym (and_parts (is_in tables Domain) true e).0 ∙ away in cc)
 none_saved tables kinds away _ e = refl
 
 pub saves_none : (tables : List TableId) (kinds : List SpecKind) → is_in tables Domain ≡ false → (deeds : List Deed) → list_all (stays_in tables) deeds ≡ true
     → list_all (saves_in kinds) deeds ≡ true
 saves_none tables kinds away [] all = refl
 saves_none tables kinds away (deed ∷ deeds) all =
-    let here = none_saved tables kinds away deed (left-true (stays_in tables deed) (list_all (stays_in tables) deeds) all) in
-    let rest = saves_none tables kinds away deeds (right-true (stays_in tables deed) (list_all (stays_in tables) deeds) all) in
+    let here = none_saved tables kinds away deed (and_parts (stays_in tables deed) (list_all (stays_in tables) deeds) all).0 in
+    let rest = saves_none tables kinds away deeds (and_parts (stays_in tables deed) (list_all (stays_in tables) deeds) all).1 in
     (λ i. here i && rest i)
 
 -- ---- any deeds

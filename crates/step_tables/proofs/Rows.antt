@@ -2,7 +2,7 @@
 use Rattle.std.proofs.Common.{◌≡◌, ℕ, Bool, true, false, List, [], ◌∷◌, refl, sym, ap, ◌∙◌}
 use Rattle.std.specs.Prelude.{◌==◌, ◌&&◌, ◌||◌, option_and_then}
 use Rattle.std.specs.List.{list_all, list_any}
-use Rattle.std.proofs.lemmas.Bool.{eqb-true}
+use Rattle.std.proofs.lemmas.Bool.{eqb-true, and_parts}
 use Rattle.depot_model.specs.db_records.declared.table.TableId.{TableId}
 use Rattle.depot_model.specs.db_records.declared.table.TableId.TheVariants.{Rev}
 use Rattle.depot_model.specs.db_records.Key.{key_table}
@@ -112,23 +112,15 @@ deed_stays d (Land l) = landed d l
 
 -- ---- deeds that stay in some tables
 
-left-true : (a b : Bool) → (a && b) ≡ true → a ≡ true
-left-true true b e = refl
-left-true false b e = e
-
-right-true : (a b : Bool) → (a && b) ≡ true → b ≡ true
-right-true true b e = e
-right-true false b e = absurd cc
-
 -- a table that isn't among some isn't among those of a deed that stays in them
 not_among : (tables : List TableId) (table : TableId) → is_in tables table ≡ false → (own : List TableId) → list_all (is_in tables) own ≡ true → is_in own table ≡ false
 not_among tables table away [] e = refl
-not_among tables table away (other ∷ own) e = go (table_number other == table_number table) refl (not_among tables table away own (right-true (is_in tables other) (list_all (is_in tables) own) e))
+not_among tables table away (other ∷ own) e = go (table_number other == table_number table) refl (not_among tables table away own (and_parts (is_in tables other) (list_all (is_in tables) own) e).1)
   where
     go : (b : Bool) → (table_number other == table_number table) ≡ b → is_in own table ≡ false → (b || is_in own table) ≡ false
     go false is later = later
     go true is later =
-        let there : is_in tables other ≡ true = left-true (is_in tables other) (list_all (is_in tables) own) e in
+        let there : is_in tables other ≡ true = (and_parts (is_in tables other) (list_all (is_in tables) own) e).0 in
         let same : is_in tables other ≡ is_in tables table =
         ap (λ n. list_any (λ (t : TableId). table_number t == n) tables) (eqb-true (table_number other) (table_number table) is) in
         absurd (let both : true ≡ false = sym there ∙ (same ∙ away) in cc)
@@ -137,8 +129,8 @@ pub rows_stay : (tables : List TableId) (key : Key) → is_in tables (key_table 
     → list_all (stays_in tables) deeds ≡ true → record_of (after d deeds) key ≡ record_of d key
 rows_stay tables key away d [] e = refl
 rows_stay tables key away d (deed ∷ deeds) e =
-    rows_stay tables key away (deed ∷ d) deeds (right-true (stays_in tables deed) (list_all (stays_in tables) deeds) e)
-    ∙ deed_stays d deed key (not_among tables (key_table key) away (deed_tables deed) (left-true (stays_in tables deed) (list_all (stays_in tables) deeds) e))
+    rows_stay tables key away (deed ∷ d) deeds (and_parts (stays_in tables deed) (list_all (stays_in tables) deeds) e).1
+    ∙ deed_stays d deed key (not_among tables (key_table key) away (deed_tables deed) (and_parts (stays_in tables deed) (list_all (stays_in tables) deeds) e).0)
 
 -- ---- deeds that stay out of the table of revisions
 
@@ -148,8 +140,8 @@ module _ (tables : List TableId) (away : is_in tables Rev ≡ false) where
     pub reading_stays : (d deeds : List Deed) → list_all (stays_in tables) deeds ≡ true → reading (after d deeds) ≡ reading d
     reading_stays d [] e = refl
     reading_stays d (deed ∷ deeds) e =
-        reading_stays (deed ∷ d) deeds (right-true (stays_in tables deed) (list_all (stays_in tables) deeds) e)
-        ∙ same_but_landed d deed (not_among tables Rev away (deed_tables deed) (left-true (stays_in tables deed) (list_all (stays_in tables) deeds) e))
+        reading_stays (deed ∷ d) deeds (and_parts (stays_in tables deed) (list_all (stays_in tables) deeds) e).1
+        ∙ same_but_landed d deed (not_among tables Rev away (deed_tables deed) (and_parts (stays_in tables deed) (list_all (stays_in tables) deeds) e).0)
 
 same_landings : (d : List Deed) (deed : Deed) → is_in (deed_tables deed) Rev ≡ false → landings (deed ∷ d) ≡ landings d
 same_landings d (Land l) e = absurd cc

@@ -4,6 +4,7 @@ use Rattle.std.specs.Prelude.{◌&&◌, ◌==◌, not, bytes_eq, is_some, is_non
 use Rattle.std.specs.List.{list_all}
 use Rattle.std.specs.Option.{option_map_or}
 use Rattle.std.proofs.lemmas.Option.{slice_get_past}
+use Rattle.std.proofs.lemmas.Bool.{and_parts}
 use Rattle.depot_rows.specs.depot_path.Bytes.{same}
 use Rattle.depot_rows.specs.depot_path.Path.{path_of, printed, is_path}
 use Rattle.depot_rows.proofs.depot_path.Paths.{prints_path}
@@ -30,7 +31,7 @@ use Rattle.depot_rows.specs.Deed.{IsEntry, AreEntries, IsLanding, IsStored}
 use Rattle.depot_rows.specs.Effects.{effects, effect, entry_path, or_before, rev_row, is_revision, AreOfPaths}
 use Rattle.depot_rows.specs.Standing.{HasRows, row_in}
 use Rattle.depot_rows.proofs.Entries.{In, path_in, of_path, paths-same, once, at_most_once}
-use Rattle.depot_rows.proofs.Keys.{same-is, same-self, number-self, left-true, right-true}
+use Rattle.depot_rows.proofs.Keys.{same-is, same-self, number-self}
 use Rattle.depot_facts.proofs.Listed.{in_filter, in_map, get_in, get_left, get_either, IsBehind}
 use Rattle.depot_facts.proofs.PathTexts.{at_read}
 use Rattle.depot_facts.proofs.Revisions.{shown}
@@ -74,8 +75,8 @@ get_map f (x ∷ xs) (suc k) e = get_map f xs k e
 -- what holds of all elements holds of each
 of_all : {A : Type 0} (test : A → Bool) (xs : List A) (x : A) → list_all test xs ≡ true → In xs x → test x ≡ true
 of_all test [] x all there = absurd there
-of_all test (y ∷ xs) x all (inl one) = ap test (sym one) ∙ left-true (test y) (list_all test xs) all
-of_all test (y ∷ xs) x all (inr later) = of_all test xs x (right-true (test y) (list_all test xs) all) later
+of_all test (y ∷ xs) x all (inl one) = ap test (sym one) ∙ (and_parts (test y) (list_all test xs) all).0
+of_all test (y ∷ xs) x all (inr later) = of_all test xs x (and_parts (test y) (list_all test xs) all).1 later
 
 -- ---- actions that aren't live
 
@@ -179,7 +180,7 @@ module _ (all : AllRows) (d : List model.Deed) (l : Landing) (m : model.Landing)
   found_entry text n [] (x ∷ xs) are at paths e f = absurd are
   found_entry text n (y ∷ es) [] are at paths e f = absurd are
   found_entry text n (y ∷ es) (x ∷ xs) are at paths e f =
-      go (is_revision text n y) refl f (found_entry text n es xs are.1 at.1 (right-true (is_path y.path) (list_all is_path (map entry_path es)) paths) e)
+      go (is_revision text n y) refl f (found_entry text n es xs are.1 at.1 (and_parts (is_path y.path) (list_all is_path (map entry_path es)) paths).1 e)
     where
       here : is_revision text n y ≡ true → IsFound text n y (x ∷ xs)
       here h = record {
@@ -187,8 +188,8 @@ module _ (all : AllRows) (d : List model.Deed) (l : Landing) (m : model.Landing)
         there = inl refl;
         entry_is = are.0;
         at = at.0;
-        good = ap is_path (sym are.0.path) ∙ left-true (is_path y.path) (list_all is_path (map entry_path es)) paths;
-        text_is = ap printed (sym are.0.path) ∙ same-is (printed y.path) text (left-true (same (printed y.path) text) (y.rev == n) h);
+        good = ap is_path (sym are.0.path) ∙ (and_parts (is_path y.path) (list_all is_path (map entry_path es)) paths).0;
+        text_is = ap printed (sym are.0.path) ∙ same-is (printed y.path) text (and_parts (same (printed y.path) text) (y.rev == n) h).0;
       }
 
       go : (b : Bool) → is_revision text n y ≡ b → (if b then Some y else find (is_revision text n) es) ≡ Some e
@@ -234,8 +235,8 @@ module _ (all : AllRows) (d : List model.Deed) (l : Landing) (m : model.Landing)
   all_paths [] (y ∷ xs) are paths x h = absurd are
   all_paths (e ∷ es) [] are paths x h = absurd are
   all_paths (e ∷ es) (y ∷ xs) are paths x (inl one) =
-      ap (λ (z : model.Entry). is_path z.path) (sym one) ∙ ap is_path (sym are.0.path) ∙ left-true (is_path e.path) (list_all is_path (map entry_path es)) paths
-  all_paths (e ∷ es) (y ∷ xs) are paths x (inr h) = all_paths es xs are.1 (right-true (is_path e.path) (list_all is_path (map entry_path es)) paths) x h
+      ap (λ (z : model.Entry). is_path z.path) (sym one) ∙ ap is_path (sym are.0.path) ∙ (and_parts (is_path e.path) (list_all is_path (map entry_path es)) paths).0
+  all_paths (e ∷ es) (y ∷ xs) are paths x (inr h) = all_paths es xs are.1 (and_parts (is_path e.path) (list_all is_path (map entry_path es)) paths).1 x h
 
   one_entry : (a b : model.Entry) → In m.entries a → In m.entries b → a.path ≡ b.path → a ≡ b
   one_entry a b h k e =

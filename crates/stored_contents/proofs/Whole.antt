@@ -2,6 +2,7 @@
 use Rattle.std.proofs.Common.{◌≡◌, ◌⊎◌, ℕ, true, List, [], ◌∷◌, Option, Some, None, inl, inr, refl, sym, ap, subst, ◌∙◌}
 use Rattle.std.specs.Prelude.{option_and_then}
 use Rattle.std.specs.List.{AllByRecursion, list_all}
+use Rattle.std.proofs.lemmas.Bool.{and_parts}
 use Rattle.depot_rows.specs.depot_path.Path.{printed}
 use Rattle.depot_rows.specs.db_records.Record.{key_of}
 use Rattle.depot_rows.specs.db_records.declared.change.Change.{Change}
@@ -27,7 +28,6 @@ use Rattle.depot_rows.specs.declared.deed.Landing.{Landing}
 use Rattle.depot_rows.specs.Deed.{IsLanding}
 use Rattle.depot_rows.specs.Effects.{effects, AreOfPaths, Follow}
 use Rattle.depot_rows.specs.Standing.{HasRows, row_in}
-use Rattle.depot_rows.proofs.Keys.{left-true}
 use Rattle.reply_rows.specs.declared.step.Step.{Step}
 use Rattle.row_changes.specs.Differences.{AreDifferences, change_at, changed_key}
 use Rattle.row_changes.proofs.Kept.{stored-after, row_after, row_left}
@@ -92,7 +92,7 @@ module _ (all : AllRows) (from : ℕ) (d : List model.Deed) (sound : IsSound d) 
 -- in a sound depot the change that landed before deeds that submit nothing has its contents
 told_whole : (told d : List model.Deed) → NothingLands told → (m : model.Landing) (others : List model.Landing) → landings d ≡ m ∷ others
     → list_all have_their_contents (landings (after d told)) ≡ true → have_their_contents m ≡ true
-told_whole [] d nothing m others is whole = left-true (have_their_contents m) (list_all have_their_contents others) (ap (list_all have_their_contents) (sym is) ∙ whole)
+told_whole [] d nothing m others is whole = (and_parts (have_their_contents m) (list_all have_their_contents others) (ap (list_all have_their_contents) (sym is) ∙ whole)).0
 told_whole (model.Land l ∷ told) d nothing m others is whole = absurd nothing
 told_whole (deed ∷ told) d nothing m others is whole = told_whole told (deed ∷ d) nothing m others is whole
 

@@ -2,6 +2,7 @@
 use Rattle.std.proofs.Common.{◌≡◌, ℕ, Bool, true, false, List, [], ◌∷◌, Option, Some, None, refl, sym, ap, ◌∙◌}
 use Rattle.std.specs.Prelude.{not, option_map}
 use Rattle.std.specs.Option.{option_map_or}
+use Rattle.std.proofs.lemmas.Bool.{and_parts}
 use Rattle.depot_rows.specs.depot_path.Bytes.{same}
 use Rattle.depot_rows.specs.db_records.declared.record.Record.{Record}
 use Rattle.depot_rows.specs.db_records.declared.record.Record.TheVariants.{Change}
@@ -16,7 +17,7 @@ use Rattle.depot_rows.specs.depot_model.Refusals.{refusal_row}
 use Rattle.depot_rows.specs.depot_model.Step.{Step as ModelStep, refuse_if, unless}
 use Rattle.depot_rows.specs.depot_model.Steps.Opening.{change_refusal, is_of}
 use Rattle.depot_rows.specs.depot_model.Steps.Submitting.{submit, submit_change}
-use Rattle.depot_rows.proofs.Keys.{right-true, same-is}
+use Rattle.depot_rows.proofs.Keys.{same-is}
 
 abbrev row_of : Option Pending → Option Landing → Option Record
 row_of p l = elim p [ Some x ↦ Some (pending_record x) | None ↦ option_map landed_record l ]
@@ -44,7 +45,7 @@ pub own_change : (d : List Deed) (request : Request) (n : ℕ) → None ≡ opti
 own_change d request n is = go (pending d n) refl is
   where
     client : (p : Pending) (b : Bool) → is_of request.caller p ≡ b → None ≡ option_map refusal_row (refuse_if (not b) (NotYours n)) → p.client ≡ request.caller.client
-    client p true e f = same-is p.client request.caller.client (right-true (same p.user request.caller.user) (same p.client request.caller.client) e)
+    client p true e f = same-is p.client request.caller.client (and_parts (same p.user request.caller.user) (same p.client request.caller.client) e).1
     client p false e f = absurd cc
 
     go : (o : Option Pending) → pending d n ≡ o

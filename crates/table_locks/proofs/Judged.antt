@@ -2,7 +2,7 @@
 use Rattle.std.proofs.Common.{◌≡◌, ◌||◌, Bool, true, false, List, [], ◌∷◌, ◌++◌, refl, sym, ap, ◌∙◌}
 use Rattle.std.specs.List.{list_any}
 use Rattle.std.proofs.lemmas.List.Folds.{list_any-append}
-use Rattle.locked_tables.proofs.Lanes.{or_second}
+use Rattle.std.proofs.lemmas.Bool.{or_right}
 
 module _ {X : Type 0} (test : X → Bool) (before : List X) (x : X) where
   -- one of all passes a test, where this one does
@@ -11,7 +11,7 @@ module _ {X : Type 0} (test : X → Bool) (before : List X) (x : X) where
       sym (ap (list_any test) parts)
       ∙ list_any-append test before (x ∷ rest)
       ∙ ap (λ (b : Bool). list_any test before || (b || list_any test rest)) passes
-      ∙ or_second (list_any test before) true refl
+      ∙ or_right (list_any test before) true refl
 
   -- none does, where none of those before did, and this one doesn't
   pub none_passes : list_any test before ≡ false → test x ≡ false → list_any test (before ++ x ∷ []) ≡ false

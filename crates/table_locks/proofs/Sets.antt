@@ -2,6 +2,7 @@
 use Rattle.std.proofs.Common.{◌≡◌, Bool, true, false, not, Result, Ok, Err, refl, sym, ap, ◌∙◌}
 use Rattle.std.specs.Prelude.{◌||◌, ◌&&◌, filter}
 use Rattle.std.specs.List.{list_any}
+use Rattle.std.proofs.lemmas.Bool.{or_left, or_right}
 use Rattle.command_needs.specs.Sets.{AreOfWords, needs_table}
 use Rattle.command_needs.specs.declared.needs.Needs.{Needs}
 use Rattle.depot_model.specs.db_records.Table.{all_tables}
@@ -22,13 +23,6 @@ use Rattle.table_locks.proofs.Tables.{among_passing, any-map, in_all, is_table}
 pub needs_same : (needs : Needs) (asked : Result Command WordFault) → AreOfWords asked needs → (table : TableId) → needs_table needs table ≡ model.needs_table asked table
 needs_same needs (Ok command) are table = λ i. are.reads table i || are.writes table i
 needs_same needs (Err fault) are table = λ i. are.reads table i || are.writes table i
-
-or_left : (a b : Bool) → a ≡ true → (a || b) ≡ true
-or_left a b e = ap (λ c. c || b) e
-
-or_right : (a b : Bool) → b ≡ true → (a || b) ≡ true
-or_right true b e = refl
-or_right false b e = e
 
 module _ {N : Type 0} (g : Gathered N) (table : TableId) where
   -- a table is held, or was looked at, where it is among those

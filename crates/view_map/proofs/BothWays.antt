@@ -4,6 +4,7 @@ use Rattle.std.specs.Prelude.{◌&&◌, option_and_then}
 use Rattle.std.specs.List.{AllZip}
 use Rattle.std.specs.Cmp.Lexicographic.{pointwise, same_text}
 use Rattle.std.proofs.lemmas.Cmp.{nat_list_eq_equiv}
+use Rattle.std.proofs.lemmas.Bool.{and_parts}
 use Rattle.depot_path.specs.Bytes.{same}
 use Rattle.depot_path.specs.Path.{is_path}
 use Rattle.depot_path.specs.Fit.{texts, filled, specifiers, StandsFor, AreTexts}
@@ -19,20 +20,12 @@ Texts = List (List ℕ)
 
 -- ---- equal texts
 
-and_left : (a b : Bool) → (a && b) ≡ true → a ≡ true
-and_left true b e = refl
-and_left false b e = e
-
-and_right : (a b : Bool) → (a && b) ≡ true → b ≡ true
-and_right true b e = e
-and_right false b e = absurd cc
-
 all_same : (ts us : Texts) → pointwise same ts us ≡ true → ts ≡ us
 all_same [] [] e = refl
 all_same [] (u ∷ us) e = absurd cc
 all_same (t ∷ ts) [] e = absurd cc
 all_same (t ∷ ts) (u ∷ us) e =
-    ap (λ v. v ∷ ts) (same_text t u (sym (and_left (same t u) (pointwise same ts us) e))) ∙ ap (λ vs. u ∷ vs) (all_same ts us (and_right (same t u) (pointwise same ts us) e))
+    ap (λ v. v ∷ ts) (same_text t u (sym (and_parts (same t u) (pointwise same ts us) e).0)) ∙ ap (λ vs. u ∷ vs) (all_same ts us (and_parts (same t u) (pointwise same ts us) e).1)
 
 same_all : (ts : Texts) → pointwise same ts ts ≡ true
 same_all [] = refl

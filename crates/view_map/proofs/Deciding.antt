@@ -2,6 +2,7 @@
 use Rattle.std.proofs.Common.{◌≡◌, ℕ, Bool, true, false, cond, List, [], ◌∷◌, ◌++◌, Option, Some, None, refl, sym, ap, ◌∙◌}
 use Rattle.std.specs.Prelude.{◌||◌}
 use Rattle.std.proofs.lemmas.List.Folds.{list_any-append}
+use Rattle.std.proofs.lemmas.Bool.{or_from}
 use Rattle.depot_path.specs.Fit.{fits}
 use Rattle.view_map.specs.Carry.{client_path, is_exclusion, is_overlay, takes}
 use Rattle.view_map.specs.Mapping.{hides, taken_by_some, hidden_by_some, unhidden, given_by, path_in, after_deciding, at_path, mapped}
@@ -33,10 +34,6 @@ excludes before after line file x t f = decides before after line file (taken_ou
 
 -- ---- a line that hides a path
 
-both_false : (a b : Bool) → a ≡ false → b ≡ false → (a || b) ≡ false
-both_false true b e f = e
-both_false false b e f = f
-
 hidden_there : (before after : List ViewLine) (line : ViewLine) (path : List ℕ) → hides path line ≡ true → hidden_by_some (before ++ line ∷ after) path ≡ true
 hidden_there before after line path e = list_any-append (hides path) before (line ∷ after) ∙ or_true (hidden_by_some before path) (hides path line) (hidden_by_some after path) e
 
@@ -66,7 +63,7 @@ none_left (first ∷ before) rest file path e t h any = go (taken_by_some before
         (path_in before file ≡ Some path → path_in (before ++ rest) file ≡ None) → path_in (first ∷ (before ++ rest)) file ≡ None
     go true f e later = let g : taken_by_some (before ++ rest) file ≡ true = taken_is ∙ ap (λ b. b || taken_by_some rest file) f in rw g (later e)
     go false f e later =
-        let g : taken_by_some (before ++ rest) file ≡ false = taken_is ∙ both_false (taken_by_some before file) (taken_by_some rest file) f t in
+        let g : taken_by_some (before ++ rest) file ≡ false = taken_is ∙ or_from (taken_by_some before file) (taken_by_some rest file) f t in
         rw g (hidden_path first before rest file path e (any before))
 
 pub hidden_later : (before after : List ViewLine) (line : ViewLine) (file path : List ℕ) → path_in before file ≡ Some path → is_overlay line.sign ≡ false →

@@ -2,7 +2,7 @@
 use Rattle.std.proofs.Common.{◌≡◌, ℕ, ◌+◌, ◌≤◌, Bool, true, false, cond, List, [], ◌∷◌, length, map, refl, sym, ap, subst, ◌∙◌, arith}
 use Rattle.std.specs.Prelude.{◌&&◌, ◌==◌, count_by}
 use Rattle.std.specs.List.{list_all}
-use Rattle.std.proofs.lemmas.Bool.{eqb-true}
+use Rattle.std.proofs.lemmas.Bool.{eqb-true, and_parts, and_from}
 use Rattle.std.proofs.lemmas.List.Sums.{sum_by-cons}
 use Rattle.depot_path.specs.declared.piece.Piece.{Piece}
 use Rattle.view_map.specs.Specifiers.{same_label, labels, stands_once, same_specifiers, text_for, answering}
@@ -51,18 +51,6 @@ HasOne ls l = 1 ≤ count_by (same_label l) ls
 abbrev AllOnce : List Label → List Label → Type 0
 AllOnce ms ls = list_all (stands_once ms) ls ≡ true
 
-and_left : (a b : Bool) → (a && b) ≡ true → a ≡ true
-and_left true b e = refl
-and_left false b e = e
-
-and_right : (a b : Bool) → (a && b) ≡ true → b ≡ true
-and_right true b e = e
-and_right false b e = absurd cc
-
-both : (a b : Bool) → a ≡ true → b ≡ true → (a && b) ≡ true
-both true b e f = f
-both false b e f = absurd cc
-
 pub count_one : (ms : List Label) (l : Label) → stands_once ms l ≡ true → count_by (same_label l) ms ≡ 1
 count_one ms l e = eqb-true (count_by (same_label l) ms) 1 e
 
@@ -75,10 +63,10 @@ found_once [] ls l h one = absurd (omega (arith, one))
 found_once (m ∷ ms) ls l h one = go (same_label l m) refl (found_once ms ls l)
   where
     go : (b : Bool) → same_label l m ≡ b → (AllOnce ls ms → HasOne ms l → count_by (same_label l) ls ≡ 1) → count_by (same_label l) ls ≡ 1
-    go true e rest = subst (λ x. count_by (same_label x) ls ≡ 1) (sym (label_is l m e)) (count_one ls m (and_left (stands_once ls m) (list_all (stands_once ls) ms) h))
+    go true e rest = subst (λ x. count_by (same_label x) ls ≡ 1) (sym (label_is l m e)) (count_one ls m (and_parts (stands_once ls m) (list_all (stands_once ls) ms) h).0)
     go false e rest =
         let more : count_by (same_label l) (m ∷ ms) ≡ cond false 1 0 + count_by (same_label l) ms = count_cons l m ms ∙ ap (λ b. cond b 1 0 + count_by (same_label l) ms) e in
-        rest (and_right (stands_once ls m) (list_all (stands_once ls) ms) h) (omega (arith, more, one))
+        rest (and_parts (stands_once ls m) (list_all (stands_once ls) ms) h).1 (omega (arith, more, one))
 
 one_is : (n : ℕ) → n ≡ 1 → (n == 1) ≡ true
 one_is n e = grind (arith, e)
@@ -87,9 +75,9 @@ one_is n e = grind (arith, e)
 stands_alone : (ks ls ms : List Label) → AllOnce ms ks → AllOnce ls ms → AllOnce ls ks
 stands_alone [] ls ms h g = refl
 stands_alone (k ∷ ks) ls ms h g =
-    both (stands_once ls k) (list_all (stands_once ls) ks)
-    (one_is (count_by (same_label k) ls) (found_once ms ls k g (omega (arith, count_one ms k (and_left (stands_once ms k) (list_all (stands_once ms) ks) h)))))
-    (stands_alone ks ls ms (and_right (stands_once ms k) (list_all (stands_once ms) ks) h) g)
+    and_from (stands_once ls k) (list_all (stands_once ls) ks)
+    (one_is (count_by (same_label k) ls) (found_once ms ls k g (omega (arith, count_one ms k (and_parts (stands_once ms k) (list_all (stands_once ms) ks) h).0))))
+    (stands_alone ks ls ms (and_parts (stands_once ms k) (list_all (stands_once ms) ks) h).1 g)
 
 -- ---- the texts that labels have
 
@@ -139,8 +127,8 @@ in_longer l k ls = omega (arith, count_cons l k ls)
 at_most_once : (ls ks : List Label) → AllOnce ks ls → ((l : Label) → count_by (same_label l) ls ≤ count_by (same_label l) ks) → NoTwice ls
 at_most_once [] ks h part = tt
 at_most_once (l ∷ ls) ks h part = (
-  free_of l ls (omega (arith, has_first l ls, part l, count_one ks l (and_left (stands_once ks l) (list_all (stands_once ks) ls) h))),
-  at_most_once ls ks (and_right (stands_once ks l) (list_all (stands_once ks) ls) h) (λ k. omega (arith, in_longer k l ls, part k)),
+  free_of l ls (omega (arith, has_first l ls, part l, count_one ks l (and_parts (stands_once ks l) (list_all (stands_once ks) ls) h).0)),
+  at_most_once ls ks (and_parts (stands_once ks l) (list_all (stands_once ks) ls) h).1 (λ k. omega (arith, in_longer k l ls, part k)),
 )
 
 own_texts : (ls : List Label) (ts : Texts) → NoTwice ls → length ts ≡ length ls → map (text_for ls ts) ls ≡ ts
@@ -166,19 +154,19 @@ text_given f (m ∷ ms) l one = go (same_label m l) refl (text_given f ms l)
 texts_given : (f : Label → List ℕ) (ls ms : List Label) → AllOnce ms ls → map (text_for ms (map f ms)) ls ≡ map f ls
 texts_given f [] ms h = refl
 texts_given f (l ∷ ls) ms h =
-    ap (λ u. u ∷ map (text_for ms (map f ms)) ls) (text_given f ms l (omega (arith, count_one ms l (and_left (stands_once ms l) (list_all (stands_once ms) ls) h))))
-    ∙ ap (λ us. f l ∷ us) (texts_given f ls ms (and_right (stands_once ms l) (list_all (stands_once ms) ls) h))
+    ap (λ u. u ∷ map (text_for ms (map f ms)) ls) (text_given f ms l (omega (arith, count_one ms l (and_parts (stands_once ms l) (list_all (stands_once ms) ls) h).0)))
+    ∙ ap (λ us. f l ∷ us) (texts_given f ls ms (and_parts (stands_once ms l) (list_all (stands_once ms) ls) h).1)
 
 -- there and back
 pub back_again : (from to : List Piece) (ts : Texts) → same_specifiers from to ≡ true → length ts ≡ length (labels from) → answering to from (answering from to ts) ≡ ts
 back_again from to ts h e =
-    let there : AllOnce (labels to) (labels from) = and_left (list_all (stands_once (labels to)) (labels from)) (list_all (stands_once (labels from)) (labels to)) h in
-    let back : AllOnce (labels from) (labels to) = and_right (list_all (stands_once (labels to)) (labels from)) (list_all (stands_once (labels from)) (labels to)) h in
+    let there : AllOnce (labels to) (labels from) = (and_parts (list_all (stands_once (labels to)) (labels from)) (list_all (stands_once (labels from)) (labels to)) h).0 in
+    let back : AllOnce (labels from) (labels to) = (and_parts (list_all (stands_once (labels to)) (labels from)) (list_all (stands_once (labels from)) (labels to)) h).1 in
     texts_given (text_for (labels from) ts) (labels from) (labels to) there
     ∙ own_texts (labels from) ts (at_most_once (labels from) (labels from) (stands_alone (labels from) (labels from) (labels to) there back) (λ l. omega arith)) e
 
 pub turned : (from to : List Piece) → same_specifiers from to ≡ true → same_specifiers to from ≡ true
 turned from to h =
-    both (list_all (stands_once (labels from)) (labels to)) (list_all (stands_once (labels to)) (labels from))
-    (and_right (list_all (stands_once (labels to)) (labels from)) (list_all (stands_once (labels from)) (labels to)) h)
-    (and_left (list_all (stands_once (labels to)) (labels from)) (list_all (stands_once (labels from)) (labels to)) h)
+    and_from (list_all (stands_once (labels from)) (labels to)) (list_all (stands_once (labels to)) (labels from))
+    (and_parts (list_all (stands_once (labels to)) (labels from)) (list_all (stands_once (labels from)) (labels to)) h).1
+    (and_parts (list_all (stands_once (labels to)) (labels from)) (list_all (stands_once (labels from)) (labels to)) h).0

@@ -5,6 +5,7 @@ use Rattle.std.specs.List.{list_all, Contains, slice_index_or, IsDistinct, AllBy
 use Rattle.std.specs.Cmp.Lexicographic.{same_text}
 use Rattle.std.proofs.lemmas.List.{append-nil}
 use Rattle.std.proofs.lemmas.List.Elements.{Contains-append_left, Contains-append_right, Contains-append_cases, Contains-push}
+use Rattle.std.proofs.lemmas.Bool.{and_parts, or_parts}
 use Rattle.depot_path.specs.Bytes.{same}
 use Rattle.depot_path.specs.Path.{is_path}
 use Rattle.depot_path.specs.Fit.{fits}
@@ -18,14 +19,6 @@ use Rattle.view_map.proofs.Placing.{untaken, hidden_has_none, unfit_carried}
 
 abbrev Files : Type 0
 Files = List (List ℕ)
-
-pub and_left : (a b : Bool) → (a && b) ≡ true → a ≡ true
-and_left true b e = refl
-and_left false b e = e
-
-pub and_right : (a b : Bool) → (a && b) ≡ true → b ≡ true
-and_right true b e = e
-and_right false b e = absurd cc
 
 none_some : {A : Type 0} {x : A} → (let o : Option A = None in o) ≡ Some x → ⊥
 none_some e = absurd cc
@@ -120,12 +113,12 @@ maps_there [] path file h p c = absurd (none_contained file c)
 maps_there (line ∷ later) path file h p c =
     elim (Contains-append_cases (files_at later path) (file_by line later path (depot_file line path)) file c) [
       | inl d ↦
-          let e = maps_there later path file (and_right (is_paired line) (list_all is_paired later) h) p d in
+          let e = maps_there later path file (and_parts (is_paired line) (list_all is_paired later) h).1 p d in
           in_later line later file (has_taker later file path e) ∙ e
       | inr d ↦
           let r = is_put line later path file d in
           in_first line later file r.decides
-          ∙ gives line later file path r.maps (carried_back line.client line.depot path file (turned line.depot line.client (and_left (is_paired line) (list_all is_paired later) h)) p r.there) r.shown
+          ∙ gives line later file path r.maps (carried_back line.client line.depot path file (turned line.depot line.client (and_parts (is_paired line) (list_all is_paired later) h).0) p r.there) r.shown
     ]
 
 just_one : (x : List ℕ) → Contains (x ∷ []) x
@@ -137,12 +130,12 @@ is_there (line ∷ later) path file h p e =
     elim (taken_case (taken_by_some later file)) [
       | inl t ↦
           Contains-append_left (files_at later path) (file_by line later path (depot_file line path)) file
-          (is_there later path file (and_right (is_paired line) (list_all is_paired later) h) p (sym (in_later line later file t) ∙ e))
+          (is_there later path file (and_parts (is_paired line) (list_all is_paired later) h).1 p (sym (in_later line later file t) ∙ e))
       | inr t ↦
           let r = is_given line later file path (sym (in_first line later file t) ∙ e) in
           Contains-append_right (files_at later path) (file_by line later path (depot_file line path)) file
           (subst (λ (fs : Files). Contains fs file)
-          (sym (puts line later path file r.maps (carried_back line.depot line.client file path (and_left (is_paired line) (list_all is_paired later) h) p r.there) t r.shown))
+          (sym (puts line later path file r.maps (carried_back line.depot line.client file path (and_parts (is_paired line) (list_all is_paired later) h).0 p r.there) t r.shown))
           (just_one file))
     ]
 
@@ -162,7 +155,7 @@ stands_behind [] file path h p e = absurd cc
 stands_behind (line ∷ later) file path h p e =
     elim (taken_case (taken_by_some later file)) [
       | inl t ↦
-          let r = stands_behind later file path (and_right (is_paired line) (list_all is_paired later) h) p (sym (in_later line later file t) ∙ e) in
+          let r = stands_behind later file path (and_parts (is_paired line) (list_all is_paired later) h).1 p (sym (in_later line later file t) ∙ e) in
           let own = file_by line later path (depot_file line path) in (
             r.0 ++ own,
             ap (λ (fs : Files). fs ++ own) r.1 ∙ append_assoc (files_at (after_deciding later file) path) (file ∷ r.0) own
@@ -170,7 +163,7 @@ stands_behind (line ∷ later) file path h p e =
           )
       | inr t ↦
           let r = is_given line later file path (sym (in_first line later file t) ∙ e) in
-          let put = puts line later path file r.maps (carried_back line.depot line.client file path (and_left (is_paired line) (list_all is_paired later) h) p r.there) t r.shown in
+          let put = puts line later path file r.maps (carried_back line.depot line.client file path (and_parts (is_paired line) (list_all is_paired later) h).0 p r.there) t r.shown in
           ([], ap (λ (fs : Files). files_at later path ++ fs) put ∙ ap (λ (ls : List ViewLine). files_at ls path ++ file ∷ []) (sym (decided_first line later file t)))
     ]
 
@@ -190,14 +183,6 @@ rivals_first lines file path rivals h p e =
 
 -- ---- without overlay lines
 
-or_left : (a b : Bool) → (a || b) ≡ false → a ≡ false
-or_left true b e = e
-or_left false b e = refl
-
-or_right : (a b : Bool) → (a || b) ≡ false → b ≡ false
-or_right true b e = absurd cc
-or_right false b e = e
-
 unfit : (line : ViewLine) (path : List ℕ) → is_overlay line.sign ≡ false → hides path line ≡ false → fits line.client path ≡ false
 unfit line path o h = ap (λ b. not b && fits line.client path) (sym o) ∙ h
 
@@ -208,9 +193,9 @@ none_shown : (lines : List ViewLine) (path : List ℕ) → has_overlay lines ≡
 none_shown [] path o h = refl
 none_shown (line ∷ later) path o h =
     ap (λ (fs : Files). files_at later path ++ fs)
-    (nothing_put line later path (unfit line path (or_left (is_overlay line.sign) (has_overlay later) o) (or_left (hides path line) (hidden_by_some later path) h)))
+    (nothing_put line later path (unfit line path (or_parts (is_overlay line.sign) (has_overlay later) o).0 (or_parts (hides path line) (hidden_by_some later path) h).0))
     ∙ append-nil (files_at later path)
-    ∙ none_shown later path (or_right (is_overlay line.sign) (has_overlay later) o) (or_right (hides path line) (hidden_by_some later path) h)
+    ∙ none_shown later path (or_parts (is_overlay line.sign) (has_overlay later) o).1 (or_parts (hides path line) (hidden_by_some later path) h).1
 
 few_put : (line : ViewLine) (later : List ViewLine) (path : List ℕ) (o : Option (List ℕ)) → length (file_by line later path o) ≤ 1
 few_put line later path None = omega arith
@@ -223,7 +208,7 @@ few_put line later path (Some file) = go (is_exclusion line.sign || taken_by_som
 at_most_one : (lines : List ViewLine) (path : List ℕ) → has_overlay lines ≡ false → length (files_at lines path) ≤ 1
 at_most_one [] path o = omega arith
 at_most_one (line ∷ later) path o =
-    let less = or_right (is_overlay line.sign) (has_overlay later) o in
+    let less = (or_parts (is_overlay line.sign) (has_overlay later) o).1 in
     elim (taken_case (hidden_by_some later path)) [
       | inl t ↦
           subst (λ (fs : Files). length (files_at later path ++ fs) ≤ 1) (sym (hidden_has_none line later path (depot_file line path) t))
@@ -287,5 +272,5 @@ nothing_twice = tt
 pub all_once : (lines : List ViewLine) (path : List ℕ) → ArePaired lines → is_path path ≡ true → IsDistinct same (files_at lines path)
 all_once [] path h p = nothing_twice
 all_once (line ∷ later) path h p =
-    let more = and_right (is_paired line) (list_all is_paired later) h in
+    let more = (and_parts (is_paired line) (list_all is_paired later) h).1 in
     distinct_with line later path (depot_file line path) (λ f c. has_taker later f path (maps_there later path f more p c)) (all_once later path more p)

@@ -3,6 +3,7 @@ use Rattle.std.proofs.Common.{◌≡◌, ℕ, zero, suc, ◌+◌, ◌<◌, ◌�
 use Rattle.std.specs.Prelude.{◌&&◌, ◌||◌, not, is_some, option_and_then}
 use Rattle.std.specs.List.{list_any}
 use Rattle.std.proofs.lemmas.List.{append-nil}
+use Rattle.std.proofs.lemmas.Bool.{or_parts}
 use Rattle.depot_path.specs.Fit.{fits, texts}
 use Rattle.depot_path.specs.declared.piece.Piece.{Piece}
 use Rattle.view_map.specs.Specifiers.{answering}
@@ -55,14 +56,6 @@ decides (line ∷ lines) file (suc at) next d is low e f =
     subst (λ n. mapped (line ∷ lines) file ≡ at_path (drop n (line ∷ lines)) (given_by (get_or lines at d) (drop n (line ∷ lines)) file)) (sym m)
     (rw g h)
 
-or_left : (a b : Bool) → (a || b) ≡ false → a ≡ false
-or_left true b e = e
-or_left false b e = refl
-
-or_right : (a b : Bool) → (a || b) ≡ false → b ≡ false
-or_right true b e = absurd cc
-or_right false b e = e
-
 not_given : (line : ViewLine) (later : List ViewLine) (file : List ℕ) → takes file line ≡ false → given_by line later file ≡ None
 not_given line later file e = go (is_exclusion line.sign) (client_path line file) e
   where
@@ -74,8 +67,8 @@ not_given line later file e = go (is_exclusion line.sign) (client_path line file
 pub untaken : (lines : List ViewLine) (file : List ℕ) → taken_by_some lines file ≡ false → path_in lines file ≡ None
 untaken [] file e = refl
 untaken (line ∷ lines) file e =
-    let f = or_right (takes file line) (taken_by_some lines file) e in
-    rw f (not_given line lines file (or_left (takes file line) (taken_by_some lines file) e))
+    let f = (or_parts (takes file line) (taken_by_some lines file) e).1 in
+    rw f (not_given line lines file (or_parts (takes file line) (taken_by_some lines file) e).0)
 
 nothing_there : (lines : List ViewLine) (file : List ℕ) → taken_by_some lines file ≡ false → mapped lines file ≡ Nothing
 nothing_there lines file e = ap (at_path (after_deciding lines file)) (untaken lines file e)

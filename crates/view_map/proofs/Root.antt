@@ -2,7 +2,7 @@
 use Rattle.std.proofs.Common.{◌≡◌, inl, inr, ℕ, ◌+◌, Bool, true, false, cond, List, [], ◌∷◌, ◌++◌, length, drop, Option, Some, None, Result, Ok, Err, refl, sym, ap, ◌∙◌, append_assoc}
 use Rattle.std.specs.Prelude.{◌&&◌, ◌==◌, not, is_some, nat_lt}
 use Rattle.std.specs.List.{list_all}
-use Rattle.std.proofs.lemmas.Bool.{eqb-true}
+use Rattle.std.proofs.lemmas.Bool.{eqb-true, and_parts}
 use Rattle.depot_path.specs.Answers.{◌>>=◌, on_ok, on_err}
 use Rattle.depot_path.specs.Bytes.{begins_with}
 use Rattle.depot_path.specs.Pattern.{literal}
@@ -18,7 +18,7 @@ use Rattle.view_map.specs.declared.fault.ViewFault.{ViewFault}
 use Rattle.view_map.specs.declared.line.Sign.{Sign}
 use Rattle.view_map.specs.declared.line.ViewLine.{ViewLine}
 use Rattle.view_map.proofs.BothWays.{is_carried}
-use Rattle.view_map.proofs.Found.{is_given, in_later, in_first, taken_case, and_left, and_right}
+use Rattle.view_map.proofs.Found.{is_given, in_later, in_first, taken_case}
 use Rattle.view_map.proofs.Start.{begins_itself, rest_of}
 
 -- ---- a path that fits begins with the literal text
@@ -88,11 +88,11 @@ below : (root : List ℕ) (lines : List ViewLine) (file path : List ℕ) → lis
 below root [] file path h e = absurd cc
 below root (line ∷ later) file path h e =
     elim (taken_case (taken_by_some later file)) [
-      | inl t ↦ below root later file path (and_right (is_rooted root line) (list_all (is_rooted root) later) h) (sym (in_later line later file t) ∙ e)
+      | inl t ↦ below root later file path (and_parts (is_rooted root line) (list_all (is_rooted root) later) h).1 (sym (in_later line later file t) ∙ e)
       | inr t ↦
           let g = is_given line later file path (sym (in_first line later file t) ∙ e) in
           let r = is_carried line.depot line.client file path g.there in
-          longer path (literal line.client) root (and_left (is_rooted root line) (list_all (is_rooted root) later) h) (starts line.client path (ap is_some r.again))
+          longer path (literal line.client) root (and_parts (is_rooted root line) (list_all (is_rooted root) later) h).0 (starts line.client path (ap is_some r.again))
     ]
 
 pub below_root : (client : List ℕ) (texts : List (List ℕ)) (lines : List ViewLine) (file path : List ℕ) → view_of client texts ≡ Ok lines → path_in lines file ≡ Some path →

@@ -7,6 +7,7 @@ use Rattle.std.proofs.lemmas.Cmp.{nat_list_eq_equiv}
 use Rattle.std.proofs.lemmas.Grind.{flat_map-append}
 use Rattle.std.proofs.lemmas.List.{append-nil, take-append-drop, drop_at}
 use Rattle.std.proofs.Math.Seq.{take-append_seam}
+use Rattle.std.proofs.lemmas.Bool.{and_parts, or_left, or_right}
 use Rattle.depot_path.specs.Bytes.{begins_with}
 use Rattle.depot_path.specs.Path.{escaped, printed}
 use Rattle.depot_path.specs.Pattern.{literal}
@@ -23,7 +24,7 @@ use Rattle.view_map.specs.Beginnings.{ends_with_first, front, beginning_of, begi
 use Rattle.view_map.specs.declared.line.ViewLine.{ViewLine}
 use Rattle.view_map.proofs.Exchange.{label_is, label_same, count_cons, count_one}
 use Rattle.view_map.proofs.BothWays.{IsCarried, is_carried, texts_fill, texts_many}
-use Rattle.view_map.proofs.Found.{is_given, in_later, in_first, taken_case, ArePaired, and_left, and_right}
+use Rattle.view_map.proofs.Found.{is_given, in_later, in_first, taken_case, ArePaired}
 
 abbrev Texts : Type 0
 Texts = List (List ℕ)
@@ -116,11 +117,11 @@ count_alone d l e = go (same_label d l) refl
 
 only_label : (ls : List Label) (l : Label) → list_all (stands_once (l ∷ [])) ls ≡ true → count_by (same_label l) ls ≡ 1 → ls ≡ l ∷ []
 only_label [] l h e = let none : 0 ≡ 1 = e in absurd (omega (arith, none))
-only_label (d ∷ []) l h e = ap (λ x. x ∷ []) (count_alone d l (and_left (stands_once (l ∷ []) d) true h))
+only_label (d ∷ []) l h e = ap (λ x. x ∷ []) (count_alone d l (and_parts (stands_once (l ∷ []) d) true h).0)
 only_label (d ∷ f ∷ ls) l h e =
-    let one = count_alone d l (and_left (stands_once (l ∷ []) d) (list_all (stands_once (l ∷ [])) (f ∷ ls)) h) in
-    let more = and_right (stands_once (l ∷ []) d) (list_all (stands_once (l ∷ [])) (f ∷ ls)) h in
-    let two = count_alone f l (and_left (stands_once (l ∷ []) f) (list_all (stands_once (l ∷ [])) ls) more) in
+    let one = count_alone d l (and_parts (stands_once (l ∷ []) d) (list_all (stands_once (l ∷ [])) (f ∷ ls)) h).0 in
+    let more = (and_parts (stands_once (l ∷ []) d) (list_all (stands_once (l ∷ [])) (f ∷ ls)) h).1 in
+    let two = count_alone f l (and_parts (stands_once (l ∷ []) f) (list_all (stands_once (l ∷ [])) ls) more).0 in
     let a : count_by (same_label l) (d ∷ f ∷ ls) ≡ cond true 1 0 + count_by (same_label l) (f ∷ ls) =
     count_cons l d (f ∷ ls) ∙ ap (λ b. cond b 1 0 + count_by (same_label l) (f ∷ ls)) (ap (same_label l) one ∙ label_same l) in
     let b : count_by (same_label l) (f ∷ ls) ≡ cond true 1 0 + count_by (same_label l) ls =
@@ -147,11 +148,11 @@ has_one_text : (depot client : List Piece) (file path : List ℕ) → same_speci
 has_one_text depot client file path h e r =
     let l = one_label client 0 0 e in
     let in_client : list_all (stands_once (labels client)) (labels depot) ≡ true =
-    and_left (list_all (stands_once (labels client)) (labels depot)) (list_all (stands_once (labels depot)) (labels client)) h in
+    (and_parts (list_all (stands_once (labels client)) (labels depot)) (list_all (stands_once (labels depot)) (labels client)) h).0 in
     let in_depot : list_all (stands_once (labels depot)) (labels client) ≡ true =
-    and_right (list_all (stands_once (labels client)) (labels depot)) (list_all (stands_once (labels depot)) (labels client)) h in
+    (and_parts (list_all (stands_once (labels client)) (labels depot)) (list_all (stands_once (labels depot)) (labels client)) h).1 in
     let once : stands_once (labels depot) l.0 ≡ true =
-    and_left (stands_once (labels depot) l.0) true (sym (ap (list_all (stands_once (labels depot))) l.1) ∙ in_depot) in
+    (and_parts (stands_once (labels depot) l.0) true (sym (ap (list_all (stands_once (labels depot))) l.1) ∙ in_depot)).0 in
     let same_labels : labels depot ≡ l.0 ∷ [] =
     only_label (labels depot) l.0 (sym (ap (λ ls. list_all (stands_once ls) (labels depot)) l.1) ∙ in_client) (count_one (labels depot) l.0 once) in
     let many : length r.cut ≡ 1 = texts_many depot file r.cut r.is_cut ∙ ap (λ (ls : List Label). length ls) same_labels in
@@ -230,17 +231,9 @@ line_begins line start file path h e b =
 
 -- ---- all lines
 
-or_right_true : (a b : Bool) → b ≡ true → (a || b) ≡ true
-or_right_true true b e = refl
-or_right_true false b e = e
-
-or_left_true : (a b : Bool) → a ≡ true → (a || b) ≡ true
-or_left_true true b e = refl
-or_left_true false b e = absurd cc
-
 with_more : (file : List ℕ) (o : Option (List ℕ)) (more : Texts) → list_any (begins_with (printed file)) more ≡ true → list_any (begins_with (printed file)) (onto o more) ≡ true
 with_more file None more e = e
-with_more file (Some text) more e = or_right_true (begins_with (printed file) text) (list_any (begins_with (printed file)) more) e
+with_more file (Some text) more e = or_right (begins_with (printed file) text) (list_any (begins_with (printed file)) more) e
 
 below_is : (start : List ℕ) (line : ViewLine) → is_exclusion line.sign ≡ false → beginning_below start line ≡ beginning_of start line.depot line.client
 below_is start line e = rw e refl
@@ -252,10 +245,10 @@ some_begins (line ∷ later) start file path h e b =
     elim (taken_case (taken_by_some later file)) [
       | inl t ↦
           with_more file (beginning_below start line) (beginnings start later)
-          (some_begins later start file path (and_right (is_paired line) (list_all is_paired later) h) (sym (in_later line later file t) ∙ e) b)
+          (some_begins later start file path (and_parts (is_paired line) (list_all is_paired later) h).1 (sym (in_later line later file t) ∙ e) b)
       | inr t ↦
           let g = is_given line later file path (sym (in_first line later file t) ∙ e) in
-          let r = line_begins line start file path (and_left (is_paired line) (list_all is_paired later) h) g.there b in
+          let r = line_begins line start file path (and_parts (is_paired line) (list_all is_paired later) h).0 g.there b in
           ap (λ o. list_any (begins_with (printed file)) (onto o (beginnings start later))) (below_is start line g.maps ∙ r.1)
-          ∙ or_left_true (begins_with (printed file) r.0) (list_any (begins_with (printed file)) (beginnings start later)) r.2
+          ∙ or_left (begins_with (printed file) r.0) (list_any (begins_with (printed file)) (beginnings start later)) r.2
     ]

@@ -1,6 +1,7 @@
 use Rattle.std.proofs.Common.{List, ℕ, refl, sym, subst}
 use Rattle.std.specs.Prelude.{IsTrue}
 use Rattle.std.specs.List.{list_all}
+use Rattle.std.proofs.lemmas.Bool.{and_parts}
 use Rattle.depot_rows.specs.db_records.declared.table.TableId.TheVariants as tables
 use Rattle.depot_rows.specs.table_changes.Changed.{rows_of}
 use Rattle.depot_rows.specs.depot_model.declared.command.Command.{Command}
@@ -10,7 +11,6 @@ use Rattle.depot_rows.specs.depot_model.Steps.Adding.{add}
 use Rattle.depot_rows.specs.depot_model.Steps.Editing.{delete, edit}
 use Rattle.depot_rows.specs.depot_model.Steps.Reverting.{lock, opened_step, reopen, revert, unlock}
 use Rattle.depot_rows.specs.depot_model.WellFormed.{asks_head, is_type_or_none, spells_path}
-use Rattle.depot_rows.proofs.Keys.{right-true}
 use Rattle.reply_rows.specs.Made.{IsMade}
 use Rattle.command_core.specs.Outcomes.{IsFormed, HasTouched}
 use Rattle.command_core.proofs.opening_commands.opening_step.Goals as goal
@@ -20,7 +20,7 @@ returns-in_ok-added-in-Add c = λ d sound asked family formed has.
     let added = c.in_ok-added-in-Add in
     let P : Command → Type 0 = λ k. IsFormed k → HasTouched (rows_of c.args.tables.now) d k → IsMade (rows_of c.args.tables.now) d d (own_step d c.args.request.now k) added.added in
     subst P (sym c.in-Add.is) (λ formed has. subst (λ (xs : List FileArgument). IsTrue (list_all spells_path xs) → IsMade (rows_of c.args.tables.now) d d (add d c.args.request.now.caller c.in-Add.change c.in-Add.file_type xs) added.added) c.as_slice.ensures
-    (λ promised. added.ensures d promised sound asked (has tables.Change refl) (has tables.Working refl) (has tables.Rev refl)) (right-true (is_type_or_none c.in-Add.file_type) _ formed.0)) formed has
+    (λ promised. added.ensures d promised sound asked (has tables.Change refl) (has tables.Working refl) (has tables.Rev refl)) (and_parts (is_type_or_none c.in-Add.file_type) _ formed.0).1) formed has
 
 pub returns-in_ok-edited-in-Edit : goal.returns-in_ok-edited-in-Edit
 returns-in_ok-edited-in-Edit c = λ d sound asked family formed has.

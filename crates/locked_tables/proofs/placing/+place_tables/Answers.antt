@@ -1,4 +1,5 @@
 use Rattle.std.proofs.Common.{rules, ◌≡◌, ◌||◌, ◌-◌, ◌^◌, ◌<◌, ℕ, [], ◌∷◌, ◌++◌, length, true, List, Some, None, Option, IfSome, sym, ap, subst, ◌∙◌}
+use Rattle.std.proofs.lemmas.Bool.{or_left}
 use Rattle.depot_model.specs.db_records.Table.{table_number}
 use Rattle.order_words.specs.Lanes.{has_lane, is_among}
 use Rattle.order_words.specs.Seats.{LaneState, OrderState}
@@ -8,7 +9,7 @@ use Rattle.locked_tables.specs.Known.{TableKnown}
 use Rattle.locked_tables.specs.Taken.{rows_after}
 use Rattle.locked_tables.specs.Held.{AllNext, known_of, lane_next, lanes_next, table_held}
 use Rattle.locked_tables.specs.declared.taken.Taken.{Taken}
-use Rattle.locked_tables.proofs.Lanes.{lanes_or, or_first}
+use Rattle.locked_tables.proofs.Lanes.{lanes_or}
 use Rattle.locked_tables.proofs.Announced.{announced_placed, checked_next, settled_table}
 use Rattle.locked_tables.proofs.placing.+place_tables.Goals as goal
 
@@ -37,7 +38,7 @@ settle-requires-clause-placed g t c =
     let last : c.place_tables-all.new.order.list ≡ order ++ entry ∷ [] =
     ap (λ (o : OrderState Taken). o.list) c.place_tables-all.ensures.order ∙ ap (λ (l : List Taken). l ++ entry ∷ []) (ap (λ (o : OrderState Taken). o.list) c.announce_next.ensures.order) in
     let one : has_lane c.with_lane-more.result announced.lane ≡ true = subst (λ (n : ℕ). has_lane c.with_lane-more.result n ≡ true) c.lane.ensures.lane c.with_lane-more.ensures.one in
-    let has : has_lane result announced.lane ≡ true = c.place_tables-all.ensures.lanes announced.lane ∙ or_first (has_lane c.with_lane-more.result announced.lane) _ one in
+    let has : has_lane result announced.lane ≡ true = c.place_tables-all.ensures.lanes announced.lane ∙ or_left (has_lane c.with_lane-more.result announced.lane) _ one in
     announced_placed c.table.inside.seat announced order c.place_tables-all.new.order.list entry c.announce_next.ensures.lane last has
 
 pub invariant_of-table : goal.invariant_of-table
@@ -56,7 +57,7 @@ invariant_of-table g t c =
     let last : c.place_tables-all.new.order.list ≡ order ++ entry ∷ [] =
     ap (λ (o : OrderState Taken). o.list) c.place_tables-all.ensures.order ∙ ap (λ (l : List Taken). l ++ entry ∷ []) (ap (λ (o : OrderState Taken). o.list) c.announce_next.ensures.order) in
     let one : has_lane c.with_lane-more.result announced.lane ≡ true = subst (λ (n : ℕ). has_lane c.with_lane-more.result n ≡ true) c.lane.ensures.lane c.with_lane-more.ensures.one in
-    let has : has_lane result announced.lane ≡ true = c.place_tables-all.ensures.lanes announced.lane ∙ or_first (has_lane c.with_lane-more.result announced.lane) _ one in
+    let has : has_lane result announced.lane ≡ true = c.place_tables-all.ensures.lanes announced.lane ∙ or_left (has_lane c.with_lane-more.result announced.lane) _ one in
     let is : c.args.held.now ≡ first ∷ rest = c.in-Some.ensures.cases.0 in
     let next : first.next ≡ Some version = search rules in
     let known : known_of first ≡ record { table = table; list = seat.list } = sym (c.table.view_is ∙ c.deref_mut-table.ensures.value) in
