@@ -1,6 +1,6 @@
 -- Entries of a submitted change as the model has them, each path once.
 use Rattle.std.proofs.Common.{◌≡◌, ◌+◌, ℕ, suc, Bool, true, false, not, List, [], ◌∷◌, map, Some, None, inl, inr, ◌⊎◌, refl, sym, ap, subst, ◌∙◌}
-use Rattle.std.specs.Prelude.{◌&&◌, ◌||◌, ◌==◌, if◌then◌else◌, find, slice_get, filter}
+use Rattle.std.specs.Prelude.{◌&&◌, ◌==◌, if◌then◌else◌, find, slice_get, filter}
 use Rattle.std.specs.List.{list_any, list_all}
 use Rattle.std.proofs.lemmas.Bool.{true≢false, or_parts, and_parts}
 use Rattle.depot_model.specs.depot_path.Bytes.{same}
