@@ -3,3 +3,4 @@ pub mod Mode
 pub mod Wildcard
 pub mod Line
 pub mod Rights
+pub mod Numbers

@@ -1,106 +1,51 @@
 //! The protections table, and what it grants.
 
-ghost use Rattle.std.specs.Prelude.{◌≡◌, ◌+◌, ◌^◌, ◌<◌, [], IfOk, if◌then◌else◌};
+ghost use Rattle.std.specs.Prelude.{◌≡◌, ◌+◌, ◌^◌, ◌<◌, ◌≤◌, ℕ, [], length, get_or, IfOk, if◌then◌else◌};
 ghost use Rattle.depot_path.specs.Answers.{Answers};
-ghost use Rattle.protect_table.specs.Mode.{grants, denies};
 ghost use Rattle.protect_table.specs.Line.{table_of, no_memory, in_line, is_memory};
-ghost use Rattle.protect_table.specs.Rights.{is_whole as whole_test, names as names_caller, matches as matches_at, verdict, grants_at, denies_at, grants_somewhere, denies_everywhere, may as may_at, may_any as may_somewhere, level as level_at, any_level as level_somewhere};
+ghost use Rattle.protect_table.specs.Numbers.{AreRising, IsSaid, IsWithin, denying, end_of, granting, said_at as said_in};
+ghost use Rattle.protect_table.specs.Rights.{granted, may as may_at, may_any as may_somewhere, level as level_at, any_level as level_somewhere};
 
 use crate::fault::{LineFault, ProtectFault};
 use crate::line::ProtectLine;
-use crate::mode::Grantee;
+use crate::numbers::{Numbers, numbers_at};
+use crate::said::{Question, Said, is_within};
 use crate::who::{Level, Who};
-use crate::wildcard::{fits_name, fits_some_name};
-use depot_path::{DepotPath, Piece, Sequence, Text};
+use depot_path::{DepotPath, Sequence, Text};
 use std::alloc::{AllocError, Global};
 use std::marker::Model;
 use std::sync::Arc;
 
+/// The lines, and which of them name whom.
+#[derive(Drop)]
+struct Table {
+    lines: Sequence<ProtectLine>,
+    numbers: Numbers,
+}
+
 /// The protections table, seen in contracts as the list of its lines. It never changes, and what shares it holds
 /// the same lines.
 pub struct Protects {
-    lines: Arc<Sequence<ProtectLine>, Global>,
+    table: Arc<Table, Global>,
 }
 
 impl Drop for Protects {
     fn drop(self) {
-        let Protects { lines: _ } = self;
+        let Protects { table: _ } = self;
     }
 }
 
 impl Model for Protects {
     ghost use Rattle.std.specs.Prelude.{List};
     ghost use Rattle.std.specs.Arc.{arc_value};
+    ghost use Rattle.protect_table.specs.Numbers.{AreOf};
     ghost use Rattle.protect_table.specs.declared.line.ProtectLine.{ProtectLine};
 
     ghost Value = { List ProtectLine };
 
-    ghost view = { λ table. arc_value table.lines };
-}
+    ghost view = { λ protects. (arc_value protects.table).lines };
 
-/// Whether the pattern is `//...`.
-fn is_whole(pieces: &[Piece]) -> bool
-    ensures { result ≡ whole_test pieces.now }
-{
-    match pieces {
-        [Piece::Byte(first), Piece::Byte(second), Piece::Dots] => *first == b'/' && *second == b'/',
-        _ => false,
-    }
-}
-
-impl ProtectLine {
-    /// Whether the line is for the caller. The name is looked at first: most lines name others, from any host.
-    fn names(&self, who: &Who) -> bool
-        ensures { result ≡ names_caller who.now self.now }
-    {
-        let name = self.name.as_bytes();
-        let named = match self.grantee {
-            Grantee::User => fits_name(name, &who.user),
-            Grantee::Group => fits_some_name(name, who.groups.as_slice()),
-        };
-        named && fits_name(self.host.as_bytes(), &who.host)
-    }
-
-    /// Whether it speaks of the need, as one that grants or as an exclusion.
-    fn concerns(&self, need: u8) -> bool
-        ensures { result ≡ (if self.now.excludes then denies self.now.mode need else grants self.now.mode need) }
-    {
-        if self.excludes {
-            self.mode.denies(need)
-        } else {
-            self.mode.grants(need)
-        }
-    }
-
-    /// Whether it is for the caller and the path.
-    fn matches(&self, who: &Who, path: &DepotPath) -> bool
-        ensures { result ≡ matches_at who.now path.now self.now }
-    {
-        self.names(who) && self.path.matches(path)
-    }
-
-    /// Whether it grants or denies the need at the path, if it does either.
-    fn verdict_at(&self, who: &Who, path: &DepotPath, need: u8) -> Option<bool>
-        ensures { result ≡ verdict (grants_at who.now path.now need self.now) (denies_at who.now path.now need self.now) }
-    {
-        if self.concerns(need) && self.matches(who, path) {
-            Some(!self.excludes)
-        } else {
-            None
-        }
-    }
-
-    /// Whether it grants the need at some path, or denies it at every path, if it does either.
-    fn verdict_somewhere(&self, who: &Who, need: u8) -> Option<bool>
-        ensures { result ≡ verdict (grants_somewhere who.now need self.now) (denies_everywhere who.now need self.now) }
-    {
-        let concerns = self.concerns(need) && (!self.excludes || is_whole(self.path.pieces()));
-        if concerns && self.names(who) {
-            Some(!self.excludes)
-        } else {
-            None
-        }
-    }
+    ghost invariant = { λ protects. AreOf (arc_value protects.table).numbers (arc_value protects.table).lines };
 }
 
 /// The fault of a bad line, where `before` lines precede it.
@@ -122,8 +67,9 @@ impl Protects {
     fn of_lines(alloc: Global, lines: Sequence<ProtectLine>) -> Result<Self, AllocError>
         ensures { IfOk result (λ protects. protects ≡ lines) }
     {
+        let numbers = Numbers::of_lines(alloc, lines.as_slice())?;
         Ok(Protects {
-            lines: Arc::new(alloc, lines)?,
+            table: Arc::new(alloc, Table { lines, numbers })?,
         })
     }
 
@@ -139,7 +85,7 @@ impl Protects {
         ensures { IfOk result (λ protects. protects ≡ self.now) }
     {
         Ok(Protects {
-            lines: Arc::try_clone(&self.lines)?,
+            table: Arc::try_clone(&self.table)?,
         })
     }
 
@@ -168,38 +114,88 @@ impl Protects {
     pub fn lines(&self) -> &[ProtectLine]
         ensures { result.now ≡ self.now }
     {
-        self.lines.as_slice()
+        self.table.lines.as_slice()
     }
 
-    /// Whether the caller has the need at the path. It takes no memory, and looks at the lines from the last until one grants or denies
-    /// the need there.
+    /// What the line of a number says, if there is one and it says anything.
+    fn said_at(&self, number: usize, asked: &Question<'_>) -> Option<bool>
+        ensures { result ≡ said_in asked.now self.now number }
+    {
+        match self.lines().get(number) {
+            Some(line) => line.said(asked),
+            None => None,
+        }
+    }
+
+    /// The last line that says anything, of those up to `last` and of some with rising numbers.
+    fn last_of(&self, numbers: &[usize], asked: &Question<'_>, last: Option<Said>) -> Option<Said>
+        requires rising { AreRising numbers.now }
+        requires said { IsSaid asked.now self.now last }
+        ensures said { IsSaid asked.now self.now result }
+        ensures later { end_of last ≤ end_of result }
+        ensures within { (i : ℕ) → i < length numbers.now → IsWithin asked.now self.now result (get_or numbers.now i 0) }
+    {
+        let mut at = numbers.len();
+        while at > 0 {
+            at -= 1;
+            let line = numbers[at];
+            if is_within(line, last) {
+                return last;
+            }
+            if let Some(granted) = self.said_at(line, asked) {
+                return Some(Said { line, granted });
+            }
+        }
+        last
+    }
+
+    /// The last line that says anything. It looks at those that may name the caller, from the last.
+    fn last_said(&self, asked: &Question<'_>) -> Option<Said>
+        ensures said { IsSaid asked.now self.now result }
+        ensures within { (number : ℕ) → IsWithin asked.now self.now result number }
+    {
+        let numbers = &self.table.numbers;
+        let of_many = self.last_of(numbers.others.as_slice(), asked, None);
+        let own = numbers_at(&numbers.users, &asked.who.user);
+        let mut last = self.last_of(own, asked, of_many);
+        let groups = asked.who.groups.as_slice();
+        for i in 0..groups.len() {
+            let of_group = numbers_at(&numbers.groups, &groups[i]);
+            last = self.last_of(of_group, asked, last);
+        }
+        last
+    }
+
+    fn grants(&self, asked: &Question<'_>) -> bool
+        ensures { result ≡ granted (granting asked.now) (denying asked.now) self.now }
+    {
+        match self.last_said(asked) {
+            Some(said) => said.granted,
+            None => self.lines().is_empty(),
+        }
+    }
+
+    /// Whether the caller has the need at the path. It takes no memory, and looks at the lines that may name the caller alone: what it costs
+    /// follows the lines for the user, for the user's groups and for names with `*`, not those for others.
     pub fn may(&self, who: &Who, file: &DepotPath, need: Level) -> bool
         ensures { result ≡ may_at self.now who.now file.now need.0 }
     {
-        let lines = self.lines();
-        let mut at = lines.len();
-        while at > 0 {
-            at -= 1;
-            if let Some(granted) = lines[at].verdict_at(who, file, need.0) {
-                return granted;
-            }
-        }
-        lines.is_empty()
+        self.grants(&Question {
+            who,
+            file: Some(file),
+            need: need.0,
+        })
     }
 
-    /// Whether the caller has the need somewhere: only exclusions of `//...` deny it. It takes no memory.
+    /// Whether the caller has the need somewhere: only exclusions of `//...` deny it. It takes no memory, and costs what `may` does.
     pub fn may_any(&self, who: &Who, need: Level) -> bool
         ensures { result ≡ may_somewhere self.now who.now need.0 }
     {
-        let lines = self.lines();
-        let mut at = lines.len();
-        while at > 0 {
-            at -= 1;
-            if let Some(granted) = lines[at].verdict_somewhere(who, need.0) {
-                return granted;
-            }
-        }
-        lines.is_empty()
+        self.grants(&Question {
+            who,
+            file: None,
+            need: need.0,
+        })
     }
 
     /// The greatest need that the caller has at the path, 0 where there is none. It takes no memory.
