@@ -10,12 +10,12 @@ use Rattle.archive_file.specs.declared.archive.Archive.{Archive}
 use Rattle.depot_rows.specs.db_records.declared.change.Change.{Change}
 use Rattle.disk_journal.specs.Images.{Committed}
 use Rattle.disk_journal.specs.Keeping.{KeepsOlder}
-use Rattle.disk_journal.specs.Stands.{Doubtful, nothing, Stands}
+use Rattle.disk_journal.specs.Stands.{Doubtful, Stands, next_number, nothing}
 use Rattle.disk_journal.specs.declared.journal.Journal.{Journal}
 use Rattle.journal_groups.specs.Groups.{IsGroup, group_text}
 use Rattle.recovery.specs.Holding.{group_texts}
-use Rattle.depot_commit.specs.Growing.{Chronicle, HasGroups, IsWritten, KeepsStored, generations_of, grown, landed, older_after, with_changes}
-use Rattle.depot_commit.specs.Writing.{StandsBy, next_if, with_doubtful}
+use Rattle.depot_commit.specs.Growing.{Chronicle, HasGroups, HasWritten, IsWritten, KeepsStored, generations_of, grown, landed, older_after, with_changes}
+use Rattle.depot_commit.specs.Writing.{next_if, with_doubtful}
 use Rattle.recovery.proofs.Held.{length_texts}
 use Rattle.recovery.proofs.OneGroup.{all-push, all_but_last, group_texts-push, last_of}
 use Rattle.depot_commit.proofs.Stored.{keeps_more, keeps_same}
@@ -64,30 +64,30 @@ module _ (was : Committed) (c : Chronicle) (written : Doubtful) (changes : List 
       ap (λ (w : Doubtful). older_after was (map (group_texts 1) c.closed) w false) is.1
       ∙ (ap (λ (g : List (List ℕ)). map (group_texts 1) c.closed ++ g ∷ []) are ∙ sym (map-append (group_texts 1) c.closed (c.newest ∷ [])))
 
-module _ {D : Type 0} (disk_says : DiskSays D) (journal : Journal D) (was : Committed) (c : Chronicle) (are : was.groups ≡ group_texts 1 c.newest)
-    (are_groups : AllByRecursion (AllByRecursion IsGroup) (generations_of c)) where
+module _ {D : Type 0} {disk_says : DiskSays D} {old settled : Journal D} {c : Chronicle} (has : HasGroups disk_says old c) (keeps : (older : List (List (List ℕ))) → KeepsOlder disk_says old older → KeepsOlder disk_says settled older) where
   -- the same groups stand on a disk
-  pub same_groups : (doubt : Doubtful) → Stands disk_says journal was doubt → KeepsOlder disk_says journal (map (group_texts 1) c.closed) → HasGroups disk_says journal c
-  same_groups doubt stands keeps = record { was = was; doubt = doubt; stands = stands; keeps = keeps; are = are; are_groups = are_groups }
+  pub groups_kept : {doubt : Doubtful} → Stands disk_says settled has.was doubt → HasGroups disk_says settled c
+  groups_kept {doubt} stands = record { was = has.was; doubt = doubt; stands = stands; keeps = keeps (map (group_texts 1) c.closed) has.keeps; are = has.are; are_groups = has.are_groups }
 
-  -- it was written, or its writing failed
-  pub written_groups : (opens : Bool) (written : Doubtful) (changes : List Change) → IsWritten (length was.groups + 1) opens written changes → (failed : Bool)
-      → StandsBy disk_says journal was written failed → KeepsOlder disk_says journal (older_after was (map (group_texts 1) c.closed) written failed)
-      → HasGroups disk_says journal (landed opens failed changes c)
-  written_groups opens written changes is true stands keeps = same_groups stands.0 stands.2 keeps
-  written_groups opens written changes is false stands keeps = record {
-    was = with_doubtful was written;
-    doubt = nothing;
-    stands = stands;
-    keeps = subst (KeepsOlder disk_says journal) (older_with was c written changes are opens is) keeps;
-    are = groups_with was c written changes are opens is;
-    are_groups = are_with was c written changes are_groups opens is;
-  }
+  -- changes were written, or their writing failed
+  pub groups_written : (opens : Bool) (changes : List Change) {written : Doubtful} {failed : Bool} {new : Journal D} → changes ≢ [] → IsWritten (next_number old) opens written changes
+      → HasWritten disk_says has.was written failed settled new → HasGroups disk_says new (grown opens failed changes c)
+  groups_written opens [] some is wrote = absurd (some refl)
+  groups_written opens (change ∷ changes) {written} {failed} {new} some is wrote = go failed wrote
+    where
+      here : IsWritten (length has.was.groups + 1) opens written (change ∷ changes)
+      here = let count = has.stands.count in subst (λ (n : ℕ). IsWritten n opens written (change ∷ changes)) (omega arith) is
 
--- some changes
-pub grown_some : (opens fault : Bool) (changes : List Change) (c : Chronicle) → changes ≢ [] → landed opens fault changes c ≡ grown opens fault changes c
-grown_some opens fault [] c some = absurd (some refl)
-grown_some opens fault (change ∷ changes) c some = refl
+      go : (failed : Bool) → HasWritten disk_says has.was written failed settled new → HasGroups disk_says new (landed opens failed (change ∷ changes) c)
+      go true wrote = record { was = has.was; doubt = wrote.stands.0; stands = wrote.stands.2; keeps = wrote.keeps (map (group_texts 1) c.closed) (keeps (map (group_texts 1) c.closed) has.keeps); are = has.are; are_groups = has.are_groups }
+      go false wrote = record {
+        was = with_doubtful has.was written;
+        doubt = nothing;
+        stands = wrote.stands;
+        keeps = subst (KeepsOlder disk_says new) (older_with has.was c written (change ∷ changes) has.are opens here) (wrote.keeps (map (group_texts 1) c.closed) (keeps (map (group_texts 1) c.closed) has.keeps));
+        are = groups_with has.was c written (change ∷ changes) has.are opens here;
+        are_groups = are_with has.was c written (change ∷ changes) has.are_groups opens here;
+      }
 
 -- none
 pub grown_none : (opens fault : Bool) (changes : List Change) (c : Chronicle) → changes ≡ [] → c ≡ grown opens fault changes c

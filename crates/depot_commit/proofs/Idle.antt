@@ -8,13 +8,12 @@ use Rattle.outside_api.specs.Says.{DiskSays}
 use Rattle.command_core.specs.declared.outcome.Outcome.{Outcome}
 use Rattle.disk_journal.specs.declared.journal.Journal.{Journal}
 use Rattle.depot_rows.specs.db_records.declared.change.Change.{Change}
-use Rattle.depot_rows.specs.depot_model.Commands.{step}
 use Rattle.depot_rows.specs.depot_model.Deeds.{Deed}
-use Rattle.depot_rows.specs.depot_model.Places.{Placed, taken}
+use Rattle.depot_rows.specs.depot_model.Places.{Placed}
 use Rattle.depot_rows.specs.depot_model.declared.request.Request.{Request}
 use Rattle.depot_rows.specs.table_changes.Changed.{AllRows, changed_by, rows_of}
 use Rattle.depot_rows.specs.table_store.declared.tables.Tables.{Tables}
-use Rattle.session_loop.specs.Taking.{IsProper, placed_by, with_place}
+use Rattle.session_loop.specs.Taking.{IsProper, placed_by}
 use Rattle.sound_requests.specs.Asked.{is_typed}
 use Rattle.depot_commit.specs.Committing.{AreChangesOf, AreRowsAfter, IsOutcomeOf}
 use Rattle.depot_commit.specs.Growing.{Chronicle, HasGroups, grown}
@@ -59,13 +58,13 @@ module _ (told : Told) (unwritten : IsUnwritten told) where
       go false is = grown_none opens false told.changes c (none_changed told unwritten is)
 
   -- tables and a journal have run one place more
-  module _ {D : Type 0} (disk_says : DiskSays D) (images : Files → Type 0) (used : ℕ) (tables : Tables) (journal : Journal D) (since : ℕ) (start : List Deed) (places : List Placed) where
+  module _ {D : Type 0} {disk_says : DiskSays D} {images : Files → Type 0} {used : ℕ} {tables : Tables} {journal : Journal D} {since : ℕ} {start : List Deed} {places : List Placed} where
     pub ran_unwritten : HasRunOver disk_says images used tables journal since start places → (request : Request) (outcome : Outcome) → IsProper request → is_typed request ≡ true
         → IsOutcomeOf (rows_of tables) tables.archive_end request outcome → IsTold outcome request.number told → HasRunOver disk_says images used tables journal since start (places ++ placed_by request told.unread ∷ [])
     ran_unwritten h request outcome proper typed is t = go told.unread refl
       where
         made : AreChangesOf (rows_of tables) request told.changes
-        made = told_changes (rows_of tables) tables.archive_end (taken step start places) request outcome told h.stand is t proper typed
+        made = told_changes h.stand is t proper typed
 
         go : (unread : Bool) → told.unread ≡ unread → HasRunOver disk_says images used tables journal since start (places ++ placed_by request unread ∷ [])
         go true unread = over_faulted disk_says images used tables journal since start places request h
@@ -75,27 +74,21 @@ module _ (told : Told) (unwritten : IsUnwritten told) where
 
 -- ---- a command for which nothing counts as stored
 
-module _ (landed : Landed) (f : Bool) (fault : landed.answer.place.fault ≡ f) (none : landed.stored ≡ []) where
-  pub nothing_rows : (rows : AllRows) (changes : List Change) → AreRowsAfter rows changes f rows → AreRowsAfter rows changes landed.answer.place.fault rows
-  nothing_rows rows changes after = subst (λ (b : Bool). AreRowsAfter rows changes b rows) (sym fault) after
+module _ {D : Type 0} {disk_says : DiskSays D} {fault was : Bool} (is : fault ≡ was) where
+  pub nothing_grows : {journal : Journal D} (opens : Bool) (changes : List Change) {c : Chronicle} → c ≡ grown opens was changes c → HasGroups disk_says journal c → HasGroups disk_says journal (grown opens fault changes c)
+  nothing_grows {journal} opens changes {c} same has = subst (λ (b : Bool). HasGroups disk_says journal (grown opens b changes c)) (sym is) (subst (HasGroups disk_says journal) same has)
 
-  module _ {D : Type 0} (disk_says : DiskSays D) (journal : Journal D) where
-    pub nothing_grows : (opens : Bool) (changes : List Change) (c : Chronicle) → c ≡ grown opens f changes c → HasGroups disk_says journal c → HasGroups disk_says journal (grown opens landed.answer.place.fault changes c)
-    nothing_grows opens changes c same has = subst (λ (b : Bool). HasGroups disk_says journal (grown opens b changes c)) (sym fault) (subst (HasGroups disk_says journal) same has)
+  pub nothing_ran : {stored : List (List ℕ)} → stored ≡ [] → {images : Files → Type 0} {from : ℕ} {before : List (List ℕ)} {tables : Tables} {journal : Journal D} {since : ℕ} {start : List Deed} (places : List Placed) (request : Request)
+      → HasRunBeside disk_says images from before tables journal since start (places ++ placed_by request was ∷ []) → HasRunBeside disk_says images from (before ++ stored) tables journal since start (places ++ placed_by request fault ∷ [])
+  nothing_ran {stored} none {images} {from} {before} {tables} {journal} {since} {start} places request h =
+      let Ran : List (List ℕ) → Bool → Type 0 = λ more b. HasRunBeside disk_says images from (before ++ more) tables journal since start (places ++ placed_by request b ∷ []) in
+      subst (λ (more : List (List ℕ)). Ran more fault) (sym none) (subst (Ran []) (sym is) (beside_same disk_says images from tables journal since start (places ++ placed_by request was ∷ []) before h))
 
-    pub nothing_ran : (images : Files → Type 0) (from : ℕ) (before : List (List ℕ)) (tables : Tables) (since : ℕ) (start : List Deed) (places : List Placed) (request : Request)
-        → HasRunBeside disk_says images from before tables journal since start (places ++ placed_by request f ∷ [])
-        → HasRunBeside disk_says images from (before ++ landed.stored) tables journal since start (with_place places request landed.answer)
-    nothing_ran images from before tables since start places request h =
-        let Ran : List (List ℕ) → Bool → Type 0 = λ stored b. HasRunBeside disk_says images from (before ++ stored) tables journal since start (places ++ placed_by request b ∷ []) in
-        subst (λ (stored : List (List ℕ)). Ran stored landed.answer.place.fault) (sym none)
-        (subst (Ran []) (sym fault) (beside_same disk_says images from tables journal since start (places ++ placed_by request f ∷ []) before h))
-
-module _ (told : Told) (landed : Landed) where
+module _ {told : Told} {landed : Landed} where
   -- as much of the store is used as was
-  pub landed_nothing : {S : Type 0} (stores : List (List ℕ) → S → S → Type 0) (used : ℕ) (old new : S) → (landed.changes ≡ []) × (landed.stored ≡ []) → [] ≡ (if landed.answer.place.fault then [] else told.changes)
+  pub landed_nothing : {S : Type 0} {stores : List (List ℕ) → S → S → Type 0} {used : ℕ} {old new : S} → (landed.changes ≡ []) × (landed.stored ≡ []) → [] ≡ (if landed.answer.place.fault then [] else told.changes)
       → stores [] old new → HasLanded stores told landed used used old new
-  landed_nothing stores used old new nothing unchanged unstored = record {
+  landed_nothing {S} {stores} {used} {old} {new} nothing unchanged unstored = record {
     stored = subst (λ (l : List (List ℕ)). stores l old new) (sym nothing.1) unstored;
     end = ap (λ (l : List (List ℕ)). stores_end l used) (sym nothing.1);
     none = λ none. nothing.1;
@@ -103,9 +96,9 @@ module _ (told : Told) (landed : Landed) where
   }
 
   -- a disk failed
-  pub counted_fault : (before now contents_before contents_now : ℕ) → landed.answer.place.fault ≡ true → (landed.lost ≡ false → HasRisen before now)
+  pub counted_fault : {before now contents_before contents_now : ℕ} → landed.answer.place.fault ≡ true → (landed.lost ≡ false → HasRisen before now)
       → (landed.lost ≡ true → HasRisen contents_before contents_now) → AreCounted told landed before now contents_before contents_now
-  counted_fault before now contents_before contents_now fault risen risen_contents = record {
+  counted_fault fault risen risen_contents = record {
     only = λ whole. absurd (true≢false (sym fault ∙ whole));
     only_contents = λ whole. absurd (true≢false (sym fault ∙ whole));
     read = λ whole. absurd (true≢false (sym fault ∙ whole));

@@ -55,7 +55,7 @@ are_changes rows d request changes stand proper typed differences small counted 
 
 -- ---- what is told of an outcome
 
-module _ (rows : AllRows) (from : ℕ) (d : List Deed) (request : Request) (outcome : Outcome) (told : Told) (stand : Stand rows d) (is : IsOutcomeOf rows from request outcome) (t : IsTold outcome request.number told) where
+module _ {rows : AllRows} {from : ℕ} {d : List Deed} {request : Request} {outcome : Outcome} {told : Told} (stand : Stand rows d) (is : IsOutcomeOf rows from request outcome) (t : IsTold outcome request.number told) where
   abbrev next : List Deed
   next = after d (step d request).deeds
 
@@ -74,10 +74,9 @@ module _ (rows : AllRows) (from : ℕ) (d : List Deed) (request : Request) (outc
 
 -- ---- the answer
 
-pub answers : (start : List Deed) (places : List Placed) (request : Request) (reply of_fault : List ℕ) (answer : Answer)
-    → (answer.place.fault ≡ false → reply ≡ printed (step (taken step start places) request).rows request.number) → of_fault ≡ printed (disk_row ∷ []) request.number
+pub answers : {start : List Deed} {places : List Placed} {request : Request} {reply of_fault : List ℕ} {answer : Answer} → (answer.place.fault ≡ false → reply ≡ printed (step (taken step start places) request).rows request.number) → of_fault ≡ printed (disk_row ∷ []) request.number
     → IsToldAt (place_by request false) reply of_fault answer → Answers start places request answer
-answers start places request reply of_fault answer reply_is fault_is told = record { place = told.place_is; reply = told.reply_is ∙ go answer.place.fault refl }
+answers {start} {places} {request} {reply} {of_fault} {answer} reply_is fault_is told = record { place = told.place_is; reply = told.reply_is ∙ go answer.place.fault refl }
   where
     go : (fault : Bool) → answer.place.fault ≡ fault → (if fault then of_fault else reply) ≡ printed (told_at step (taken step start places) (placed_by request fault)) request.number
     go true is = fault_is

@@ -1,18 +1,20 @@
 -- The groups of a depot's journal, and how they grow. That a place writes at most one group, or opens a generation, is this project's own choice.
 use Rattle.std.specs.Prelude.{◌≡◌, ◌≤◌, ℕ, Bool, true, false, List, [], ◌∷◌, ◌++◌, map}
 use Rattle.std.specs.List.{AllByRecursion}
+use Rattle.outside_api.specs.Moments.{LeavesOnly}
 use Rattle.outside_api.specs.Says.{DiskSays}
 use Rattle.archive_file.specs.Archive.{disk_of, used_of}
 use Rattle.archive_file.specs.declared.archive.Archive.{Archive}
 use Rattle.depot_rows.specs.db_records.declared.change.Change.{Change}
 use Rattle.disk_journal.specs.Images.{Committed}
 use Rattle.disk_journal.specs.Keeping.{KeepsOlder}
-use Rattle.disk_journal.specs.Stands.{Doubtful, nothing, group, opening, Stands}
+use Rattle.disk_journal.specs.Stands.{Doubtful, HasWithOrWithout, Stands, disk_of as journal_disk_of, group, nothing, opening}
 use Rattle.disk_journal.specs.declared.journal.Journal.{Journal}
 use Rattle.journal_groups.specs.Groups.{IsGroup, group_text}
 pub use Rattle.recovery.specs.Chronicle.{Chronicle, generations_of}
 use Rattle.recovery.specs.Holding.{group_texts}
 use Rattle.depot_commit.specs.Storing.{KeepsBelow}
+use Rattle.depot_commit.specs.Writing.{StandsBy}
 
 -- ---- the groups of all generations
 
@@ -38,6 +40,12 @@ older_after was older written true = older
 older_after was older nothing false = older
 older_after was older (group text) false = older
 older_after was older (opening checkpoint) false = older ++ was.groups ∷ []
+
+-- A journal at which nothing was in doubt wrote, or its disk failed at that: each moment since left what was committed, with what is written or without, and the groups of older generations are kept.
+pub record HasWritten {D : Type 0} (disk_says : DiskSays D) (was : Committed) (written : Doubtful) (failed : Bool) (old new : Journal D) : Type 0 where
+  pub stands : StandsBy disk_says new was written failed
+  pub any_moment : LeavesOnly disk_says (journal_disk_of old) (journal_disk_of new) (HasWithOrWithout was written)
+  pub keeps : (older : List (List (List ℕ))) → KeepsOlder disk_says old older → KeepsOlder disk_says new (older_after was older written failed)
 
 -- one group more; or, where a generation is opened, the newest is closed and the next one begins
 abbrev pub with_changes : Bool → List Change → Chronicle → Chronicle

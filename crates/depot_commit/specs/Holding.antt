@@ -1,5 +1,5 @@
 -- When images of the two disks stand for a depot. That the counter `journal` is the generation is this project's own choice.
-use Rattle.std.specs.Prelude.{◌≡◌, ℕ, ◌≤◌, List, length, codes}
+use Rattle.std.specs.Prelude.{◌≡◌, ℕ, ◌≤◌, List, length}
 use Rattle.outside_api.specs.Disk.{Files}
 use Rattle.depot_rows.specs.db_records.declared.table.TableId.TheVariants.{Rev}
 use Rattle.disk_journal.specs.Images.{Committed, HasCommitted}

@@ -1,15 +1,13 @@
 //! What the changes of a place write to the disk of the journal: a group, or the checkpoint of the next generation.
 
-ghost use Rattle.std.specs.Prelude.{◌≡◌, ◌≤◌, ℕ, List, true, false, None, IfOk, IfSome};
+ghost use Rattle.std.specs.Prelude.{◌≡◌, ◌≤◌, true, false, None, IfOk, IfSome};
 ghost use Rattle.disk_journal.specs.Images.{Committed};
-ghost use Rattle.disk_journal.specs.Keeping.{KeepsOlder};
-ghost use Rattle.disk_journal.specs.Stands.{HasWithOrWithout, Stands, disk_of, generation_of_journal, next_number, nothing};
+ghost use Rattle.disk_journal.specs.Stands.{Stands, disk_of, generation_of_journal, next_number, nothing};
 ghost use Rattle.journal_groups.specs.Groups.{AreRecords};
 ghost use Rattle.outside_api.specs.Count.{HasRisen};
-ghost use Rattle.outside_api.specs.Moments.{LeavesOnly};
 ghost use Rattle.depot_rows.specs.table_changes.Changed.{AllFitIn, AllRows, changed_by, rows_of};
-ghost use Rattle.depot_commit.specs.Growing.{IsWritten, older_after};
-ghost use Rattle.depot_commit.specs.Writing.{CanWrite, IsWritingOf, StandsBy, left_by};
+ghost use Rattle.depot_commit.specs.Growing.{HasWritten, IsWritten};
+ghost use Rattle.depot_commit.specs.Writing.{CanWrite, IsWritingOf, left_by};
 
 use checkpoint_file::{print_generation, write_generation};
 use depot_rows::changes::change_tables;
@@ -117,11 +115,7 @@ pub(crate) fn commit<D: Disk>(
     requires can { CanWrite journal.old writing }
     ensures landed { result ≡ false → tables.new ≡ changed }
     ensures failed { result ≡ true → tables.new ≡ tables.old }
-    ensures stands { (was : Committed) → Stands D.says journal.old was nothing → StandsBy D.says journal.new was (left_by writing) result }
-    ensures any_moment { (was : Committed) → Stands D.says journal.old was nothing →
-        LeavesOnly D.says (disk_of journal.old) (disk_of journal.new) (HasWithOrWithout was (left_by writing)) }
-    ensures keeps { (was : Committed) (older : List (List (List ℕ))) → Stands D.says journal.old was nothing → KeepsOlder D.says journal.old older →
-        KeepsOlder D.says journal.new (older_after was older (left_by writing) result) }
+    ensures written { (was : Committed) → Stands D.says journal.old was nothing → HasWritten D.says was (left_by writing) result journal.old journal.new }
     ensures never_falls { D.says.faults (disk_of journal.old) ≤ D.says.faults (disk_of journal.new) }
     ensures only { result ≡ false → D.says.faults (disk_of journal.new) ≡ D.says.faults (disk_of journal.old) }
     ensures cause { result ≡ true → HasRisen (D.says.faults (disk_of journal.old)) (D.says.faults (disk_of journal.new)) }

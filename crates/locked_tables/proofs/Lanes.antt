@@ -1,5 +1,5 @@
 -- The lanes of an entry.
-use Rattle.std.proofs.Common.{◌≡◌, ◌≢◌, ◌≤◌, ◌<◌, ◌==◌, ◌||◌, ℕ, Bool, true, false, List, [], ◌∷◌, ◌++◌, Option, Some, None, refl, sym, ap, subst, ◌∙◌, arith}
+use Rattle.std.proofs.Common.{◌≡◌, ◌≢◌, ◌≤◌, ◌<◌, ◌==◌, ◌||◌, ℕ, Bool, true, false, List, [], ◌∷◌, ◌++◌, Option, Some, None, refl, sym, ap, ◌∙◌, arith}
 use Rattle.std.specs.List.{AllByRecursion}
 use mathlib.Core.Logic.{dite}
 use native.Mathlib.Decide.{ℕ_discrete}
@@ -11,7 +11,7 @@ use Rattle.depot_model.specs.db_records.declared.table.TableId.TheVariants.{Coun
 use Rattle.order_words.specs.Lanes.{has_lane, is_among}
 use Rattle.table_changes.specs.table_store.Rows.{TableRows}
 use Rattle.locked_tables.specs.Held.{AreAmong, lane_next, lanes_next, table_held}
-use Rattle.locked_tables.specs.Placing.{AreOfTables, lanes_held}
+use Rattle.locked_tables.specs.Placing.{AddsLanes, AreOfTables, lanes_held}
 use Rattle.locked_tables.specs.Taken.{archive_lane, journal_lane, party_lane}
 use Rattle.locked_tables.specs.declared.held_table.HeldTable.{HeldTable}
 
@@ -26,7 +26,7 @@ module _ (lane : ℕ) where
   -- what isn't among the lanes isn't among the last of them
   pub not_last : (front rest : List ℕ) → is_among lane (front ++ rest) ≡ false → is_among lane rest ≡ false
   not_last [] rest e = e
-  not_last (first ∷ front) rest e = not_last front rest (or_parts (lane == first) (is_among lane (front ++ rest)) e).1
+  not_last (first ∷ front) rest e = not_last front rest ((or_parts (lane == first) (is_among lane (front ++ rest)) e).1)
 
 -- no bit of zero is set
 pub no_lane : (lane : ℕ) → has_lane 0 lane ≡ false
@@ -36,33 +36,41 @@ no_lane lane = ap (λ (b : ℕ). b == 1) (bit_at-zero lane)
 pub none_among : (checked : List ℕ) → AreAmong 0 checked
 none_among checked = λ lane has. absurd (true≢false (sym has ∙ no_lane lane))
 
--- a seat's lane n is this lane
-module _ (lanes more n lane : ℕ) (is : n ≡ lane) (one : has_lane more n ≡ true) (others : (i : ℕ) → i ≢ n → has_lane more i ≡ has_lane lanes i) where
-  this : has_lane more lane ≡ true
-  this = subst (λ (m : ℕ). has_lane more m ≡ true) is one
+-- what is among all is so among some or among more
+or_three : (a b c : Bool) → ((a || (b || false)) || c) ≡ (a || (b || c))
+or_three true b c = refl
+or_three false true c = refl
+or_three false false c = refl
 
-  rest_same : (i : ℕ) → i ≢ lane → has_lane more i ≡ has_lane lanes i
-  rest_same = subst (λ (m : ℕ). (i : ℕ) → i ≢ m → has_lane more i ≡ has_lane lanes i) is others
+or_also : (a b c : Bool) → (a || (b || false)) ≡ true → (a ≡ true → c ≡ true) → (b || c) ≡ true
+or_also a true c e also = refl
+or_also true false c e also = also refl
+or_also false false c e also = absurd (cc e)
 
-  -- the bits of lanes that are checked, and of one more
-  pub among_more : (checked : List ℕ) → AreAmong lanes checked → AreAmong more (lane ∷ checked)
-  among_more checked all i h = dite (ℕ_discrete i lane)
-      (λ e. or_left (i == lane) (is_among i checked) (eq-eqb i lane e))
-      (λ ne. or_right (i == lane) (is_among i checked) (all i (sym (rest_same i ne) ∙ h)))
+-- the bits of lanes and of one more
+pub lane_added : (lanes all lane : ℕ) → has_lane all lane ≡ true → ((i : ℕ) → i ≢ lane → has_lane all i ≡ has_lane lanes i) → AddsLanes lanes (lane ∷ []) all
+lane_added lanes all lane one others = record {
+  are = λ i. dite (ℕ_discrete i lane)
+      (λ e. ap (has_lane all) e ∙ (one ∙ sym (or_right (has_lane lanes i) ((i == lane) || false) (or_left (i == lane) false (eq-eqb i lane e)))))
+      (λ ne. others i ne ∙ sym (or_no_second (has_lane lanes i) ((i == lane) || false) (or_no_first (i == lane) false (ne_eqb i lane ne))));
+}
 
-  or_same : (i : ℕ) (rest : List ℕ) (b : Bool) → (i == lane) ≡ b → (has_lane more i || is_among i rest) ≡ (has_lane lanes i || ((i == lane) || is_among i rest))
-  or_same i rest true e = let same : i ≡ lane = grind (arith, e) in or_left (has_lane more i) (is_among i rest) (ap (has_lane more) same ∙ this) ∙ sym (or_right (has_lane lanes i) ((i == lane) || is_among i rest) (or_left (i == lane) (is_among i rest) e))
-  or_same i rest false e = let ne : i ≢ lane = λ same. absurd (cc (e, eq-eqb i lane same)) in
-      ap (λ (b : Bool). b || is_among i rest) (rest_same i ne) ∙ sym (ap (λ (b : Bool). has_lane lanes i || (b || is_among i rest)) e)
+module _ {lanes all lane : ℕ} where
+  -- they are checked where that one is too
+  pub among_more : AddsLanes lanes (lane ∷ []) all → (checked : List ℕ) → AreAmong lanes checked → AreAmong all (lane ∷ checked)
+  among_more adds checked among i has = or_also (has_lane lanes i) (i == lane) (is_among i checked) (sym (adds.are i) ∙ has) (among i)
 
-  module _ (result : ℕ) (rest : List ℕ) (all : (i : ℕ) → has_lane result i ≡ (has_lane more i || is_among i rest)) where
-    -- the bits of the lanes with one more, and of the rest
-    pub lanes_or : (i : ℕ) → has_lane result i ≡ (has_lane lanes i || is_among i (lane ∷ rest))
-    lanes_or i = all i ∙ or_same i rest (i == lane) refl
+  -- and so are further ones
+  pub adds_both : {rest : List ℕ} {last : ℕ} → AddsLanes lanes (lane ∷ []) all → AddsLanes all rest last → AddsLanes lanes (lane ∷ rest) last
+  adds_both {rest} {last} one more = record { are = λ i. more.are i ∙ (ap (λ (b : Bool). b || is_among i rest) (one.are i) ∙ or_three (has_lane lanes i) (i == lane) (is_among i rest)) }
 
-    -- this lane is one of them
-    pub has_this : has_lane result lane ≡ true
-    has_this = all lane ∙ or_left (has_lane more lane) (is_among lane rest) this
+  -- that one is among them
+  pub has_this : {rest : List ℕ} → AddsLanes lanes (lane ∷ rest) all → has_lane all lane ≡ true
+  has_this {rest} adds = adds.are lane ∙ or_right (has_lane lanes lane) ((lane == lane) || is_among lane rest) (or_left (lane == lane) (is_among lane rest) (eq-eqb lane lane refl))
+
+-- with none before, these are all
+pub adds_alone : {more : List ℕ} {all : ℕ} → AddsLanes 0 more all → (lane : ℕ) → has_lane all lane ≡ is_among lane more
+adds_alone {more} adds lane = adds.are lane ∙ or_no_first (has_lane 0 lane) (is_among lane more) (no_lane lane)
 
 -- ---- lanes of tables, of the archive and of parties
 

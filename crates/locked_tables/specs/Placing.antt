@@ -1,14 +1,27 @@
 -- How an entry gets its place. This project's own choice.
-use Rattle.std.specs.Prelude.{◌≡◌, ◌≤◌, ◌<◌, ◌-◌, ◌^◌, ◌++◌, ℕ, Bool, true, false, List, [], ◌∷◌, length}
+use Rattle.std.specs.Prelude.{◌≡◌, ◌≤◌, ◌<◌, ◌+◌, ◌-◌, ◌^◌, ◌++◌, ◌||◌, ℕ, Bool, true, false, List, [], ◌∷◌, length}
 use Rattle.std.specs.List.{AllByRecursion}
-use Rattle.order_words.specs.Lanes.{has_lane, is_among}
-use Rattle.order_words.specs.Seats.{Run, OrderState}
+use mathlib.Core.List.{IsPrefix}
+use Rattle.order_words.specs.Lanes.{has_lane, is_among, last_touch}
+use Rattle.order_words.specs.Seats.{LaneState, OrderState, Run}
 use Rattle.table_changes.specs.Changed.{AllRows}
 use Rattle.locked_tables.specs.Held.{AllNext}
 use Rattle.locked_tables.specs.Known.{HasPlaceLeft, PartyKnown}
-use Rattle.locked_tables.specs.Taken.{IsOwn, IsParty, TouchesItsParty, archive_lane, journal_lane, party_lane}
+use Rattle.locked_tables.specs.Taken.{IsOwn, IsParty, TouchesItsParty, archive_lane, journal_lane, lanes_of, party_lane}
 use Rattle.locked_tables.specs.declared.held_table.HeldTable.{HeldTable}
 use Rattle.locked_tables.specs.declared.taken.Taken.{Taken}
+
+-- these lanes and more are all
+pub record AddsLanes (lanes : ℕ) (more : List ℕ) (all : ℕ) : Type 0 where
+  pub are : (lane : ℕ) → has_lane all lane ≡ (has_lane lanes lane || is_among lane more)
+
+-- The next place is announced for the lane of a seat, which is checked, and is one of the lanes that the place touches. The seat knows the whole order: no place that it didn't know touches its lane.
+pub record IsAnnounced (lanes all : ℕ) (before after : OrderState Taken) (old new : LaneState Taken) : Type 0 where
+  pub order : after ≡ record before { checked = old.lane ∷ before.checked }
+  pub seat : new ≡ record old { list = before.list; word = length before.list + 1; resting = false }
+  pub begins : IsPrefix old.list before.list
+  pub last : last_touch lanes_of old.lane before.list ≡ old.word
+  pub adds : AddsLanes lanes (old.lane ∷ []) all
 
 -- a lane that is held, or none
 abbrev pub lane_where : Bool → ℕ → List ℕ
@@ -27,7 +40,7 @@ AreOfTables lanes = (lane : ℕ) → archive_lane ≤ lane → is_among lane lan
 pub record TouchesLanes (run : Run) (entry : Taken) (archive journal : Bool) (party : ℕ) (tables : List ℕ) : Type 0 where
   pub of_run : IsParty run party
   pub below : AreOfTables tables
-  pub are : (lane : ℕ) → has_lane entry.lanes lane ≡ is_among lane (lanes_held archive journal ++ party_lane party ∷ tables)
+  pub are : AddsLanes 0 (lanes_held archive journal ++ party_lane party ∷ tables) entry.lanes
 
 module _ {N : Type 0} where
   -- An entry of a party can be given the next place: the party may have one more, and each version that is to follow is its table after the changes.

@@ -1,22 +1,21 @@
 //! The lanes of the archive and of the journal, for a command that holds their locks and for one that
 //! doesn't.
-ghost use Rattle.std.specs.Prelude.{◌≡◌, ◌≤◌, ◌-◌, ◌^◌, ◌++◌, ◌∷◌, ◌||◌, ℕ, List, Bool, true, false};
+ghost use Rattle.std.specs.Prelude.{◌≡◌, ◌≤◌, ◌-◌, ◌^◌, ◌++◌, ◌∷◌, List, Bool, true, false};
 ghost use Rattle.locked_tables.specs.Held.{AreAmong, lanes_next};
 ghost use Rattle.locked_tables.specs.Known.{LearnsPlace};
-ghost use Rattle.locked_tables.specs.Placing.{CanPlace, IsPlaced, lane_where, lanes_held};
+ghost use Rattle.locked_tables.specs.Placing.{AddsLanes, CanPlace, IsPlaced, lane_where, lanes_held};
 ghost use Rattle.locked_tables.specs.Taken.{archive_lane, journal_lane, party_lane};
 ghost use Rattle.locked_tables.specs.declared.taken.Taken.{Taken as AnyTaken};
-ghost use Rattle.order_words.specs.Lanes.{has_lane, is_among};
 
 use crate::held_table::HeldTable;
 use crate::locked_archive::LockedArchive;
 use crate::locked_journal::LockedJournal;
 use crate::naming::Naming;
 use crate::party_pass::PartyPass;
-use crate::placing::place_tables;
+use crate::placing::{announce_lane, place_tables};
 use crate::taken::Taken;
 use crate::words::OrderWords;
-use order_words::{OrderSeat, with_lane};
+use order_words::OrderSeat;
 
 /// No lane: the lock isn't held.
 #[derive(Drop)]
@@ -47,7 +46,7 @@ pub trait JournalLane<N: Naming> {
         requires can { CanPlace N.run N.rows N.places order.old.list held.old pass.old taken }
         requires checked { AreAmong lanes order.old.checked }
         ensures placed { IsPlaced N.run order.old order.new pass.old pass.new (record taken { lanes = result }) }
-        ensures lanes { (lane : ℕ) → has_lane result lane ≡ (has_lane lanes lane || is_among lane (lane_where is_held journal_lane ++ party_lane pass.old.party ∷ lanes_next held.old)) }
+        ensures lanes { AddsLanes lanes (lane_where is_held journal_lane ++ party_lane pass.old.party ∷ lanes_next held.old) result }
         ensures journal { Learns order.old.list order.new.list self.old self.new };
 }
 
@@ -75,7 +74,7 @@ pub trait ArchiveLane<N: Naming> {
         requires can { CanPlace N.run N.rows N.places order.old.list held.old pass.old taken }
         requires fits { is_held ≡ true → taken.end ≤ 2 ^ 63 - 1 }
         ensures placed { IsPlaced N.run order.old order.new pass.old pass.new (record taken { lanes = result }) }
-        ensures lanes { (lane : ℕ) → has_lane result lane ≡ is_among lane (lanes_held is_held J.is_held ++ party_lane pass.old.party ∷ lanes_next held.old) }
+        ensures lanes { AddsLanes 0 (lanes_held is_held J.is_held ++ party_lane pass.old.party ∷ lanes_next held.old) result }
         ensures archive { Learns order.old.list order.new.list self.old self.new }
         ensures journal { J.Learns order.old.list order.new.list journal.old journal.new };
 }
@@ -94,8 +93,7 @@ impl<N: Naming> JournalLane<N> for NoLane {
         lanes: u32,
         taken: Taken,
     ) -> u32 {
-        words.orders.announce_next(order, &mut pass.seat);
-        let more = with_lane(lanes, pass.seat.lane());
+        let more = announce_lane(words, order, &mut pass.seat, lanes);
         let all = place_tables(words, order, held, more, taken);
         words.orders.settle(order, &mut pass.seat);
         pass.left -= 1;
@@ -117,8 +115,7 @@ impl<N: Naming> JournalLane<N> for LockedJournal<N> {
         lanes: u32,
         taken: Taken,
     ) -> u32 {
-        words.orders.announce_next(order, &mut self.seat);
-        let more = with_lane(lanes, self.seat.lane());
+        let more = announce_lane(words, order, &mut self.seat, lanes);
         let all = NoLane.place_from(words, order, held, pass, more, taken);
         words.orders.settle(order, &mut self.seat);
         all
@@ -158,8 +155,7 @@ impl<N: Naming> ArchiveLane<N> for LockedArchive<N> {
         taken: Taken,
     ) -> u32 {
         let end = taken.end;
-        words.orders.announce_next(order, &mut self.seat);
-        let lanes = with_lane(0, self.seat.lane());
+        let lanes = announce_lane(words, order, &mut self.seat, 0);
         let all = journal.place_from(words, order, held, pass, lanes, taken);
         words.orders.settle(order, &mut self.seat);
         self.end = end;

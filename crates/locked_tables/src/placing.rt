@@ -1,15 +1,16 @@
 //! What is done with the seats of lanes under the lock of the order.
-ghost use Rattle.std.specs.Prelude.{◌≡◌, ◌+◌, ◌-◌, ◌^◌, ◌<◌, ◌≤◌, ℕ, [], ◌∷◌, ◌++◌, ◌||◌, length, drop, slice_index_or, if◌then◌else◌};
+ghost use Rattle.std.specs.Prelude.{◌≡◌, ◌+◌, ◌-◌, ◌^◌, ◌<◌, ◌≤◌, ℕ, [], ◌∷◌, ◌++◌, length, drop, slice_index_or, if◌then◌else◌, IsTrue};
 ghost use Rattle.std.specs.List.{AllByRecursion};
-ghost use Rattle.order_words.specs.Lanes.{has_lane, is_among};
+ghost use Rattle.order_words.specs.Lanes.{has_lane};
 ghost use Rattle.locked_tables.specs.Known.{IsStill};
 ghost use Rattle.locked_tables.specs.Held.{AllHaveLearnt, AllNext, AllStill, AreAmong, HasLearnt, HaveLearntFrom, known_of, lanes_next};
+ghost use Rattle.locked_tables.specs.Placing.{AddsLanes, IsAnnounced};
 
 use crate::held_table::HeldTable;
 use crate::naming::Naming;
 use crate::taken::Taken;
 use crate::words::OrderWords;
-use order_words::{OrderSeat, with_lane};
+use order_words::{LaneSeat, OrderSeat, with_lane};
 
 /// A held table learns the whole order, and is after it as it was after the places that it knew.
 fn learn_table<N: Naming>(
@@ -58,6 +59,26 @@ pub(crate) fn learn_tables<N: Naming>(
     learn_from(words, order, held, 0);
 }
 
+/// Announces that the next place will touch the lane of a seat, which is checked then. Answers the
+/// lanes that it touches already, each of which is checked, with this one.
+pub(crate) fn announce_lane<N: Naming>(
+    words: &OrderWords<N>,
+    order: &mut OrderSeat<Taken>,
+    seat: &mut LaneSeat<Taken>,
+    lanes: u32,
+) -> u32
+    requires run { (order.old.run ≡ N.run) × (seat.old.run ≡ N.run) }
+    requires rest { IsTrue seat.old.resting }
+    requires low { seat.old.lane < 32 }
+    requires room { length order.old.list < 2 ^ 64 - 1 }
+    requires checked { AreAmong lanes order.old.checked }
+    ensures announced { IsAnnounced lanes result order.old order.new seat.old seat.new }
+    ensures checked { AreAmong result order.new.checked }
+{
+    words.orders.announce_next(order, seat);
+    with_lane(lanes, seat.lane())
+}
+
 /// Gives a command the next place, which touches the lanes that it has already, each of which is
 /// checked, and the lane of each held table that is changed; the next version takes the place of
 /// that table's. Answers all these lanes.
@@ -73,7 +94,7 @@ pub(crate) fn place_tables<N: Naming>(
     requires checked { AreAmong lanes order.old.checked }
     requires next { AllNext N.rows taken.changes held.old }
     ensures order { order.new ≡ record order.old { list = order.old.list ++ record taken { lanes = result } ∷ []; checked = [] } }
-    ensures lanes { (lane : ℕ) → has_lane result lane ≡ (has_lane lanes lane || is_among lane (lanes_next held.old)) }
+    ensures lanes { AddsLanes lanes (lanes_next held.old) result }
 {
     match held.split_first_mut() {
         None => {
@@ -84,8 +105,7 @@ pub(crate) fn place_tables<N: Naming>(
             None => place_tables(words, order, rest, lanes, taken),
             Some(version) => {
                 let table = &mut *first.guard;
-                words.orders.announce_next(order, &mut table.seat);
-                let more = with_lane(lanes, table.seat.lane());
+                let more = announce_lane(words, order, &mut table.seat, lanes);
                 let all = place_tables(words, order, rest, more, taken);
                 words.orders.settle(order, &mut table.seat);
                 table.version = version;

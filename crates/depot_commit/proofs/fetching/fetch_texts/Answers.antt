@@ -1,8 +1,7 @@
 use Rattle.std.proofs.Common.{List, ℕ, sym, subst}
-use Rattle.std.specs.Prelude.{IfOk, map}
+use Rattle.std.specs.Prelude.{IfOk}
 use Rattle.outside_api.specs.Link.{Answers}
-use Rattle.recovery.specs.Holding.{group_texts}
-use Rattle.depot_commit.proofs.Growing.{same_groups}
+use Rattle.depot_commit.proofs.Growing.{groups_kept}
 use Rattle.depot_commit.proofs.fetching.fetch_texts.Goals as goal
 
 pub returns-clause-answers : goal.returns-clause-answers
@@ -14,6 +13,5 @@ pub returns-clause-fetched : goal.returns-clause-fetched
 returns-clause-fetched g c = record {
   stands = c.fetch.ensures.stands;
   any_moment = c.fetch.ensures.any_moment;
-  groups = λ all has.
-      same_groups g.D.Disk.says c.fetch.new.self has.was all has.are has.are_groups has.doubt (c.fetch.ensures.stands has.was has.doubt has.stands) (c.fetch.ensures.keeps (map (group_texts 1) all.closed) has.keeps);
+  groups = λ all has. groups_kept has c.fetch.ensures.keeps (c.fetch.ensures.stands has.was has.doubt has.stands);
 }

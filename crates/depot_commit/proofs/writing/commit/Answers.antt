@@ -3,11 +3,9 @@ use Rattle.std.proofs.lemmas.Bool.{true≢false}
 use Rattle.checkpoint_file.specs.declared.fault.CheckpointFault.{CheckpointFault}
 use Rattle.checkpoint_file.specs.declared.fault.CheckpointFault.TheVariants.{NoGeneration, DiskFault}
 use Rattle.outside_api.specs.Count.{HasRisen}
-use Rattle.outside_api.specs.Moments.{LeavesOnly}
-use Rattle.disk_journal.specs.Keeping.{KeepsOlder}
-use Rattle.disk_journal.specs.Stands.{HasWithOrWithout, disk_of, generation_of_journal}
-use Rattle.depot_commit.specs.Growing.{older_after}
-use Rattle.depot_commit.specs.Writing.{CanWrite, StandsBy, left_by}
+use Rattle.disk_journal.specs.Stands.{generation_of_journal}
+use Rattle.depot_commit.specs.Growing.{HasWritten}
+use Rattle.depot_commit.specs.Writing.{CanWrite, left_by}
 use Rattle.depot_commit.specs.declared.writing.Writing.{Writing}
 use Rattle.depot_commit.proofs.Writings.{left}
 use Rattle.depot_commit.proofs.writing.commit.Goals as goal
@@ -17,35 +15,23 @@ use Rattle.depot_commit.proofs.writing.commit.Goals as goal
 pub commit-requires-clause-prepared : goal.commit-requires-clause-prepared
 commit-requires-clause-prepared g c = subst (CanWrite c.args.journal.now) c.in-Group.is c.requires.can
 
-pub returns-in-Ok-clause-stands : goal.returns-in-Ok-clause-stands
-returns-in-Ok-clause-stands g c = λ was stands.
-    let P : Writing → Type 0 = λ w. StandsBy g.D.Disk.says c.commit.new.self was (left_by w) false in
-    subst P (sym c.in-Group.is) (c.in-Ok.ensures.ok was stands)
+pub returns-in-Ok-clause-written : goal.returns-in-Ok-clause-written
+returns-in-Ok-clause-written g c = λ was stands.
+    let Wrote : Writing → Type 0 = λ w. HasWritten g.D.Disk.says was (left_by w) false c.args.journal.now c.commit.new.self in
+    subst Wrote (sym c.in-Group.is) (record {
+      stands = c.in-Ok.ensures.ok was stands;
+      any_moment = c.commit.ensures.any_moment was stands;
+      keeps = c.commit.ensures.keeps;
+    })
 
-pub returns-in-Ok-clause-any_moment : goal.returns-in-Ok-clause-any_moment
-returns-in-Ok-clause-any_moment g c = λ was stands.
-    let P : Writing → Type 0 = λ w. LeavesOnly g.D.Disk.says (disk_of c.args.journal.now) (disk_of c.commit.new.self) (HasWithOrWithout was (left_by w)) in
-    subst P (sym c.in-Group.is) (c.commit.ensures.any_moment was stands)
-
-pub returns-in-Ok-clause-keeps : goal.returns-in-Ok-clause-keeps
-returns-in-Ok-clause-keeps g c = λ was older stands keeps.
-    let P : Writing → Type 0 = λ w. KeepsOlder g.D.Disk.says c.commit.new.self (older_after was older (left_by w) false) in
-    subst P (sym c.in-Group.is) (c.commit.ensures.keeps older keeps)
-
-pub returns-in-Err-clause-stands : goal.returns-in-Err-clause-stands
-returns-in-Err-clause-stands g c = λ was stands.
-    let P : Writing → Type 0 = λ w. StandsBy g.D.Disk.says c.commit.new.self was (left_by w) true in
-    subst P (sym c.in-Group.is) (left g.D.Disk.says c.args.journal.now c.commit.new.self was _ (c.in-Err.ensures.err was stands refl))
-
-pub returns-in-Err-clause-any_moment : goal.returns-in-Err-clause-any_moment
-returns-in-Err-clause-any_moment g c = λ was stands.
-    let P : Writing → Type 0 = λ w. LeavesOnly g.D.Disk.says (disk_of c.args.journal.now) (disk_of c.commit.new.self) (HasWithOrWithout was (left_by w)) in
-    subst P (sym c.in-Group.is) (c.commit.ensures.any_moment was stands)
-
-pub returns-in-Err-clause-keeps : goal.returns-in-Err-clause-keeps
-returns-in-Err-clause-keeps g c = λ was older stands keeps.
-    let P : Writing → Type 0 = λ w. KeepsOlder g.D.Disk.says c.commit.new.self (older_after was older (left_by w) true) in
-    subst P (sym c.in-Group.is) (c.commit.ensures.keeps older keeps)
+pub returns-in-Err-clause-written : goal.returns-in-Err-clause-written
+returns-in-Err-clause-written g c = λ was stands.
+    let Wrote : Writing → Type 0 = λ w. HasWritten g.D.Disk.says was (left_by w) true c.args.journal.now c.commit.new.self in
+    subst Wrote (sym c.in-Group.is) (record {
+      stands = left g.D.Disk.says c.args.journal.now c.commit.new.self was _ (c.in-Err.ensures.err was stands refl);
+      any_moment = c.commit.ensures.any_moment was stands;
+      keeps = c.commit.ensures.keeps;
+    })
 
 pub returns-in-Err-clause-only : goal.returns-in-Err-clause-only
 returns-in-Err-clause-only g c = λ kept. absurd (true≢false kept)
@@ -55,35 +41,23 @@ returns-in-Err-clause-only g c = λ kept. absurd (true≢false kept)
 pub write_generation-requires : goal.write_generation-requires
 write_generation-requires g c = record { rest = c.requires.stands }
 
-pub returns-in-Ok-write_generation-clause-stands : goal.returns-in-Ok-write_generation-clause-stands
-returns-in-Ok-write_generation-clause-stands g c = λ was stands.
-    let P : Writing → Type 0 = λ w. StandsBy g.D.Disk.says c.write_generation.new.journal was (left_by w) false in
-    subst P (sym c.in-Generation.is) (c.in-Ok-write_generation.ensures.ok was stands)
+pub returns-in-Ok-write_generation-clause-written : goal.returns-in-Ok-write_generation-clause-written
+returns-in-Ok-write_generation-clause-written g c = λ was stands.
+    let Wrote : Writing → Type 0 = λ w. HasWritten g.D.Disk.says was (left_by w) false c.args.journal.now c.write_generation.new.journal in
+    subst Wrote (sym c.in-Generation.is) (record {
+      stands = c.in-Ok-write_generation.ensures.ok was stands;
+      any_moment = c.write_generation.ensures.any_image was stands;
+      keeps = λ older keeps. c.in-Ok-write_generation.ensures.closes was older stands keeps;
+    })
 
-pub returns-in-Ok-write_generation-clause-any_moment : goal.returns-in-Ok-write_generation-clause-any_moment
-returns-in-Ok-write_generation-clause-any_moment g c = λ was stands.
-    let P : Writing → Type 0 = λ w. LeavesOnly g.D.Disk.says (disk_of c.args.journal.now) (disk_of c.write_generation.new.journal) (HasWithOrWithout was (left_by w)) in
-    subst P (sym c.in-Generation.is) (c.write_generation.ensures.any_image was stands)
-
-pub returns-in-Ok-write_generation-clause-keeps : goal.returns-in-Ok-write_generation-clause-keeps
-returns-in-Ok-write_generation-clause-keeps g c = λ was older stands keeps.
-    let P : Writing → Type 0 = λ w. KeepsOlder g.D.Disk.says c.write_generation.new.journal (older_after was older (left_by w) false) in
-    subst P (sym c.in-Generation.is) (c.in-Ok-write_generation.ensures.closes was older stands keeps)
-
-pub returns-in-Err-write_generation-clause-stands : goal.returns-in-Err-write_generation-clause-stands
-returns-in-Err-write_generation-clause-stands g c = λ was stands.
-    let P : Writing → Type 0 = λ w. StandsBy g.D.Disk.says c.write_generation.new.journal was (left_by w) true in
-    subst P (sym c.in-Generation.is) (left g.D.Disk.says c.args.journal.now c.write_generation.new.journal was _ (c.in-Err-write_generation.ensures.err was stands refl))
-
-pub returns-in-Err-write_generation-clause-any_moment : goal.returns-in-Err-write_generation-clause-any_moment
-returns-in-Err-write_generation-clause-any_moment g c = λ was stands.
-    let P : Writing → Type 0 = λ w. LeavesOnly g.D.Disk.says (disk_of c.args.journal.now) (disk_of c.write_generation.new.journal) (HasWithOrWithout was (left_by w)) in
-    subst P (sym c.in-Generation.is) (c.write_generation.ensures.any_image was stands)
-
-pub returns-in-Err-write_generation-clause-keeps : goal.returns-in-Err-write_generation-clause-keeps
-returns-in-Err-write_generation-clause-keeps g c = λ was older stands keeps.
-    let P : Writing → Type 0 = λ w. KeepsOlder g.D.Disk.says c.write_generation.new.journal (older_after was older (left_by w) true) in
-    subst P (sym c.in-Generation.is) (c.in-Err-write_generation.ensures.keeps older keeps refl)
+pub returns-in-Err-write_generation-clause-written : goal.returns-in-Err-write_generation-clause-written
+returns-in-Err-write_generation-clause-written g c = λ was stands.
+    let Wrote : Writing → Type 0 = λ w. HasWritten g.D.Disk.says was (left_by w) true c.args.journal.now c.write_generation.new.journal in
+    subst Wrote (sym c.in-Generation.is) (record {
+      stands = left g.D.Disk.says c.args.journal.now c.write_generation.new.journal was _ (c.in-Err-write_generation.ensures.err was stands refl);
+      any_moment = c.write_generation.ensures.any_image was stands;
+      keeps = λ older keeps. c.in-Err-write_generation.ensures.keeps older keeps refl;
+    })
 
 -- below the last generation the disk has failed
 disk_failed : (fault : CheckpointFault) (before now generation : ℕ) → generation < 4095 → (fault ≡ NoGeneration → generation ≡ 4095) → (fault ≡ DiskFault → HasRisen before now) → HasRisen before now

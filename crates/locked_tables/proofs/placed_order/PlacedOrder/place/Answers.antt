@@ -49,6 +49,9 @@ invariant_of-self g c =
       touched_next c.self.inside.touched _ order after entry c.places.result last c.places.ensures c.touch_tables.ensures c.self.invariant.6,
     )
 
+pub returns-clause-touches : goal.returns-clause-touches
+returns-clause-touches g c = record { of_run = c.place-lanes.ensures.placed.party; below = next_of_tables c.args.held.now; are = c.place-lanes.ensures.lanes }
+
 pub returns-clause-placed : goal.returns-clause-placed
 returns-clause-placed g c =
     let after = c.place-lanes.new.order.list in
@@ -57,28 +60,18 @@ returns-clause-placed g c =
     subst (λ (l : List Taken). TakesPlace l after c.args.pass.now c.place-lanes.new.pass entry) c.self.view_is
     (record { last = ap (λ (o : OrderState Taken). o.list) placed.order; pass = placed.pass; own = placed.own })
 
-pub returns-clause-touches : goal.returns-clause-touches
-returns-clause-touches g c = record { of_run = c.place-lanes.ensures.placed.party; below = next_of_tables c.args.held.now; are = c.place-lanes.ensures.lanes }
-
 pub returns-clause-end : goal.returns-clause-end
 returns-clause-end g c =
     let archive = g.A.ArchiveLane.is_held in
     let end = g.N.Naming.end in
     let after = c.place-lanes.new.order.list in
     let entry : Taken = record c.args.taken { lanes = c.place-lanes.result } in
-    let held = c.args.held.now in
-    let touches : TouchesLanes g.N.Naming.run entry archive g.J.JournalLane.is_held c.args.pass.now.party (lanes_next held) =
-    record { of_run = c.place-lanes.ensures.placed.party; below = next_of_tables held; are = c.place-lanes.ensures.lanes } in
     subst (λ (l : List Taken). end_after end after ≡ (if archive then c.args.taken.end else end_after end l)) c.self.view_is
-    (end_placed end c.self.inside.seat.list after entry archive (ap (λ (o : OrderState Taken). o.list) c.place-lanes.ensures.placed.order) (of_archive touches))
+    (end_placed end c.self.inside.seat.list after entry archive (ap (λ (o : OrderState Taken). o.list) c.place-lanes.ensures.placed.order) (of_archive (returns-clause-touches g c)))
 
 pub returns-clause-rows : goal.returns-clause-rows
 returns-clause-rows g c = λ table.
     let rows = g.N.Naming.rows in
     let after = c.place-lanes.new.order.list in
-    let entry : Taken = record c.args.taken { lanes = c.place-lanes.result } in
-    let held = c.args.held.now in
-    let touches : TouchesLanes g.N.Naming.run entry g.A.ArchiveLane.is_held g.J.JournalLane.is_held c.args.pass.now.party (lanes_next held) =
-    record { of_run = c.place-lanes.ensures.placed.party; below = next_of_tables held; are = c.place-lanes.ensures.lanes } in
-    subst (λ (l : List Taken). rows_after rows after table ≡ changed_by (rows_after rows l) entry.changes table) c.self.view_is
-    (rows_changed_by touches c.self.inside.seat.list after (ap (λ (o : OrderState Taken). o.list) c.place-lanes.ensures.placed.order) c.requires.only rows table)
+    subst (λ (l : List Taken). rows_after rows after table ≡ changed_by (rows_after rows l) c.args.taken.changes table) c.self.view_is
+    (rows_changed_by (returns-clause-touches g c) c.self.inside.seat.list after (ap (λ (o : OrderState Taken). o.list) c.place-lanes.ensures.placed.order) c.requires.only rows table)
