@@ -2,12 +2,14 @@
 
 ghost use Rattle.std.specs.Prelude.{◌≡◌, ◌↔◌, ◌≤◌, ◌<◌, ◌++◌, ◌==◌, [], ◌∷◌, IfOk, OnOk, OnErr, IsTrue, IsFalse, length, vec_len};
 ghost use Rattle.std.specs.Option.{option_copied};
-ghost use Rattle.std.specs.Arc.{arc_value};
-ghost use Rattle.table_store.specs.Places.{AllStandBelow, StandsRising, first_order, placed_once, standing_at, standing_from};
+ghost use Rattle.table_store.specs.Places.{StandsRising, placed_once, standing_at, standing_from};
 ghost use Rattle.table_store.specs.Parts.{AreParts};
-ghost use Rattle.table_store.specs.Nodes.{rows_of, AllFilled, AreNodes, IsNodeCount, ReplacesNode, ChangesNode};
+ghost use Rattle.table_store.specs.Nodes.{rows_of, AllFilled, AreNodes, ReplacesNode, ChangesNode};
 ghost use Rattle.table_store.specs.SearchKey.{sought_place};
 
+use crate::node::{
+    Node, SharedNode, change_at, end_below, nodes_up_to, nodes_up_to_row, share_nodes,
+};
 use crate::page::{PAGE_ROWS, Page};
 use crate::row_order::RowOrder;
 use crate::search_key::SearchKey;
@@ -16,7 +18,6 @@ use db_records::{Op, Record};
 use std::alloc::{AllocError, Global};
 use std::cmp::Ordering;
 use std::marker::Model;
-use std::sync::Arc;
 
 /// The number of pages at which a branch is parted.
 const BRANCH_PAGES: usize = 256;
@@ -24,7 +25,7 @@ const BRANCH_PAGES: usize = 256;
 /// Pages of rows, one after another in an order.
 #[derive(Drop)]
 pub(crate) struct Branch<O: RowOrder> {
-    list: Vec<Arc<Page<O>, Global>>,
+    list: Vec<SharedNode<Page<O>>>,
 }
 
 impl<O: RowOrder> Model for Branch<O> {
@@ -53,62 +54,39 @@ impl<O: RowOrder> Branch<O> {
     pub(crate) fn share(&self, alloc: Global) -> Result<Branch<O>, AllocError>
         ensures { IfOk result (λ pages. pages ≡ self.now) }
     {
-        let mut list = Vec::with_capacity(alloc, self.list.len())?;
-        for page in &self.list {
-            list.push(Arc::try_clone(page)?)?;
-        }
-        Ok(Branch { list })
+        Ok(Branch {
+            list: share_nodes(alloc, &self.list)?,
+        })
     }
 
     /// The row that is looked for.
     pub(crate) fn get(&self, sought: SearchKey<'_>) -> Option<&Record>
         ensures { option_copied result ≡ standing_at O.place (sought_place O.place sought.entry) self.now }
     {
-        let count = pages_up_to(&self.list, sought);
+        let count = nodes_up_to(&self.list, sought);
         if count == 0 {
             return None;
         }
-        self.list[count - 1].get(sought)
+        self.list[count - 1].node().get(sought)
     }
 
     /// The rows of one page from the first at or above what is looked for, and the pages behind it.
-    pub(crate) fn from_key(&self, sought: SearchKey<'_>) -> (&[SharedRow], &[Arc<Page<O>, Global>])
+    pub(crate) fn from_key(&self, sought: SearchKey<'_>) -> (&[SharedRow], &[SharedNode<Page<O>>])
         ensures rows { result.0.now ++ rows_of result.1.now ≡ standing_from O.place (sought_place O.place sought.entry) self.now }
         ensures filled { AllFilled result.1.now }
     {
-        let count = pages_up_to(&self.list, sought);
+        let count = nodes_up_to(&self.list, sought);
         if count == 0 {
             return (&[], &self.list);
         }
-        (self.list[count - 1].rows_from(sought), &self.list[count..])
-    }
-
-    /// Whether there are no rows.
-    pub(crate) fn is_empty(&self) -> bool
-        ensures { result ≡ (length self.now == 0) }
-    {
-        self.list.is_empty()
-    }
-
-    /// The order of the first row and what is looked for, and Less where there is no row.
-    pub(crate) fn first_order(&self, sought: SearchKey<'_>) -> Ordering
-        ensures { result ≡ first_order O.place self.now (sought_place O.place sought.entry) }
-    {
-        match self.list.first() {
-            Some(page) => page.first_order(sought),
-            None => Ordering::Less,
-        }
-    }
-
-    /// Whether all rows are below a row.
-    pub(crate) fn ends_below(&self, row: &Record) -> bool
-        ensures { IsTrue result ↔ AllStandBelow O.place (O.place row.now) self.now }
-    {
-        end_below(&self.list, row)
+        (
+            self.list[count - 1].node().rows_from(sought),
+            &self.list[count..],
+        )
     }
 
     /// The pages.
-    pub(crate) fn list(&self) -> &[Arc<Page<O>, Global>]
+    pub(crate) fn list(&self) -> &[SharedNode<Page<O>>]
         ensures rows { rows_of result.now ≡ self.now }
         ensures filled { AllFilled result.now }
     {
@@ -153,21 +131,38 @@ impl<O: RowOrder> Branch<O> {
         if self.list.is_empty() {
             return begin_branch(&mut self.list, alloc, op, row);
         }
-        let count = pages_up_to_row(&self.list, row.row());
+        let count = nodes_up_to_row(&self.list, row.row());
         change_page(&mut self.list, alloc, count.saturating_sub(1), op, row)
+    }
+}
+
+impl<O: RowOrder> Node for Branch<O> {
+    type Order = O;
+
+    ghost rows = { λ branch. branch };
+
+    fn first_order(&self, sought: SearchKey<'_>) -> Ordering {
+        match self.list.first() {
+            Some(page) => page.node().first_order(sought),
+            None => Ordering::Less,
+        }
+    }
+
+    fn ends_below(&self, row: &Record) -> bool {
+        end_below(&self.list, row)
+    }
+
+    fn is_empty(&self) -> bool {
+        self.list.is_empty()
     }
 
     /// Makes a change, if the branch has fewer pages than one that is parted, and tells whether it did.
-    pub(crate) fn change_short(
+    fn change_within(
         &mut self,
         alloc: Global,
         op: Op,
         row: &SharedRow,
-    ) -> Result<bool, AllocError>
-        ensures done { IfOk result (λ done. IsTrue done → self.new ≡ placed_once O.place self.old op row.now) }
-        ensures left { IfOk result (λ done. IsFalse done → self.new ≡ self.old) }
-        ensures err { OnErr result (self.new ≡ self.old) }
-    {
+    ) -> Result<bool, AllocError> {
         if self.list.len() >= BRANCH_PAGES {
             return Ok(false);
         }
@@ -176,40 +171,9 @@ impl<O: RowOrder> Branch<O> {
     }
 }
 
-/// How many pages begin at or below what is looked for.
-fn pages_up_to<O: RowOrder>(pages: &[Arc<Page<O>, Global>], sought: SearchKey<'_>) -> usize
-    requires { AreNodes O.place pages.now }
-    ensures { IsNodeCount O.place (sought_place O.place sought.entry) pages.now result }
-{
-    pages.partition_point(|page| page.first_order(sought).is_le())
-}
-
-/// How many pages begin at or below a row. The last page is looked at first, since rows are mostly put
-/// in their order.
-fn pages_up_to_row<O: RowOrder>(pages: &[Arc<Page<O>, Global>], row: &Record) -> usize
-    requires { AreNodes O.place pages.now }
-    ensures { IsNodeCount O.place (O.place row.now) pages.now result }
-{
-    if end_below(pages, row) {
-        return pages.len();
-    }
-    pages_up_to(pages, SearchKey::OfRow(row))
-}
-
-/// Whether all rows are below a row.
-fn end_below<O: RowOrder>(pages: &[Arc<Page<O>, Global>], row: &Record) -> bool
-    requires { AreNodes O.place pages.now }
-    ensures { IsTrue result ↔ AllStandBelow O.place (O.place row.now) (rows_of pages.now) }
-{
-    match pages.last() {
-        Some(page) => page.ends_below(row),
-        None => true,
-    }
-}
-
 /// Makes the first page.
 fn begin_branch<O: RowOrder>(
-    list: &mut Vec<Arc<Page<O>, Global>>,
+    list: &mut Vec<SharedNode<Page<O>>>,
     alloc: Global,
     op: Op,
     row: &SharedRow,
@@ -228,7 +192,7 @@ fn begin_branch<O: RowOrder>(
 /// Makes a change to a page: in place where that can be, behind it where it is full and the last, and
 /// else with copies of its rows.
 fn change_page<O: RowOrder>(
-    list: &mut Vec<Arc<Page<O>, Global>>,
+    list: &mut Vec<SharedNode<Page<O>>>,
     alloc: Global,
     at: usize,
     op: Op,
@@ -241,50 +205,16 @@ fn change_page<O: RowOrder>(
     if change_at(list, alloc, at, op, row)? {
         return Ok(());
     }
-    if at + 1 == list.len() && list[at].ends_before(op, row) {
+    if at + 1 == list.len() && list[at].node().ends_before(op, row) {
         return push_page(list, alloc, row);
     }
-    let rows = list[at].changed_rows(alloc, op, row)?;
+    let rows = list[at].node().changed_rows(alloc, op, row)?;
     replace_page(list, alloc, at, rows)
-}
-
-/// Makes a change in the page at a place, if that can be, and tells whether it did.
-fn change_at<O: RowOrder>(
-    list: &mut Vec<Arc<Page<O>, Global>>,
-    alloc: Global,
-    at: usize,
-    op: Op,
-    row: &SharedRow,
-) -> Result<bool, AllocError>
-    requires { at < vec_len list.old }
-    ensures done { IfOk result (λ done. IsTrue done → ChangesNode O.place list.old.items at op row.now list.new.items) }
-    ensures left { IfOk result (λ done. IsFalse done → list.new.items ≡ list.old.items) }
-    ensures err { OnErr result (list.new.items ≡ list.old.items) }
-{
-    change_alone(&mut list[at], alloc, op, row)
-}
-
-/// Makes a change in a page that isn't shared, if it then still is a page, and tells whether it did.
-fn change_alone<O: RowOrder>(
-    page: &mut Arc<Page<O>, Global>,
-    alloc: Global,
-    op: Op,
-    row: &SharedRow,
-) -> Result<bool, AllocError>
-    ensures done { IfOk result (λ done. IsTrue done → arc_value page.new ≡ placed_once O.place (arc_value page.old) op row.now) }
-    ensures left { IfOk result (λ done. IsFalse done → page.new ≡ page.old) }
-    ensures err { OnErr result (page.new ≡ page.old) }
-    ensures filled { 0 < length (arc_value page.old) → 0 < length (arc_value page.new) }
-{
-    match Arc::get_mut(page) {
-        Some(page) => page.change(alloc, op, row),
-        None => Ok(false),
-    }
 }
 
 /// Puts a page of one row behind the others.
 fn push_page<O: RowOrder>(
-    list: &mut Vec<Arc<Page<O>, Global>>,
+    list: &mut Vec<SharedNode<Page<O>>>,
     alloc: Global,
     row: &SharedRow,
 ) -> Result<(), AllocError>
@@ -294,13 +224,13 @@ fn push_page<O: RowOrder>(
 {
     let mut rows = Vec::new(alloc);
     rows.push(row.share()?)?;
-    list.push(Arc::new(alloc, Page::from_rows(rows)?)?)?;
+    list.push(SharedNode::new(alloc, Page::from_rows(rows)?)?)?;
     Ok(())
 }
 
 /// Puts rows in the place of those of a page: no page, one or two.
 fn replace_page<O: RowOrder>(
-    list: &mut Vec<Arc<Page<O>, Global>>,
+    list: &mut Vec<SharedNode<Page<O>>>,
     alloc: Global,
     at: usize,
     mut rows: Vec<SharedRow>,
@@ -316,12 +246,12 @@ fn replace_page<O: RowOrder>(
         return Ok(());
     }
     if rows.len() <= PAGE_ROWS {
-        list[at] = Arc::new(alloc, Page::from_rows(rows)?)?;
+        list[at] = SharedNode::new(alloc, Page::from_rows(rows)?)?;
         return Ok(());
     }
     let upper = rows.split_off(PAGE_ROWS / 2)?;
-    let lower = Arc::new(alloc, Page::from_rows(rows)?)?;
-    list.insert(at + 1, Arc::new(alloc, Page::from_rows(upper)?)?)?;
+    let lower = SharedNode::new(alloc, Page::from_rows(rows)?)?;
+    list.insert(at + 1, SharedNode::new(alloc, Page::from_rows(upper)?)?)?;
     list[at] = lower;
     Ok(())
 }

@@ -10,6 +10,7 @@
 mod branch;
 mod draft;
 mod mark_walk;
+mod node;
 mod page;
 mod protections;
 mod row_order;

@@ -5,21 +5,20 @@ ghost use Rattle.std.specs.Iterator.{YieldsFirstRef, item_count};
 ghost use Rattle.table_store.specs.Nodes.{rows_of, AllFilled};
 
 use crate::branch::Branch;
+use crate::node::SharedNode;
 use crate::page::Page;
 use crate::row_order::{ByKey, RowOrder};
 use crate::shared_row::SharedRow;
 use db_records::Record;
-use std::alloc::Global;
 use std::marker::Model;
 use std::slice;
-use std::sync::Arc;
 
 /// The rows of a version from a place on, in an order, which is that of keys where none is named.
 #[derive(Drop)]
 pub struct Walk<'a, O: RowOrder = ByKey> {
     rows: slice::Iter<'a, SharedRow>,
-    pages: slice::Iter<'a, Arc<Page<O>, Global>>,
-    branches: slice::Iter<'a, Arc<Branch<O>, Global>>,
+    pages: slice::Iter<'a, SharedNode<Page<O>>>,
+    branches: slice::Iter<'a, SharedNode<Branch<O>>>,
 }
 
 impl<'a, O: RowOrder> Model for Walk<'a, O> {
@@ -39,8 +38,8 @@ impl<'a, O: RowOrder> Walk<'a, O> {
     /// These rows, then those of the pages, and then those of the branches.
     pub(crate) fn new(
         rows: &'a [SharedRow],
-        pages: &'a [Arc<Page<O>, Global>],
-        branches: &'a [Arc<Branch<O>, Global>],
+        pages: &'a [SharedNode<Page<O>>],
+        branches: &'a [SharedNode<Branch<O>>],
     ) -> Walk<'a, O>
         requires pages { AllFilled pages.now }
         requires branches { AllFilled branches.now }
@@ -66,11 +65,11 @@ impl<'a, O: RowOrder> Iterator for Walk<'a, O> {
             return Some(row.row());
         }
         if let Some(page) = self.pages.next() {
-            self.rows = page.rows().iter();
+            self.rows = page.node().rows().iter();
             return Some(self.rows.next()?.row());
         }
-        let (first, pages) = self.branches.next()?.list().split_first()?;
-        self.rows = first.rows().iter();
+        let (first, pages) = self.branches.next()?.node().list().split_first()?;
+        self.rows = first.node().rows().iter();
         self.pages = pages.iter();
         Some(self.rows.next()?.row())
     }

@@ -8,7 +8,7 @@ pub returns-then-is_empty-clause-ok : goal.returns-then-is_empty-clause-ok
 returns-then-is_empty-clause-ok g c = rw c.remove.ensures.items (replaced_none _ _ (omega (arith, c.requires.in_range)) _ (grind (arith, common_steps)))
 
 pub returns-then-len-le-PAGE_ROWS-clause-ok : goal.returns-then-len-le-PAGE_ROWS-clause-ok
-returns-then-len-le-PAGE_ROWS-clause-ok g c = replaced_one _ _ (omega (arith, c.requires.in_range)) _ _ (c.in_ok-list.ensures.ok ∙ c.in_ok-from_rows.ensures) (grind (arith, common_steps))
+returns-then-len-le-PAGE_ROWS-clause-ok g c = replaced_one _ _ (omega (arith, c.requires.in_range)) _ _ (c.in_ok-list.ensures ∙ c.in_ok-from_rows.ensures) (grind (arith, common_steps))
 
 pub from_rows-requires-2 : goal.from_rows-requires-2
 from_rows-requires-2 g c = page_lower g.O.RowOrder.place 32 c.args.rows.items _ c.in_ok-upper.ensures.items (omega arith) (omega arith) (omega arith) c.requires.rising
@@ -21,4 +21,4 @@ returns-clause-ok g c =
     let lower = page_lower g.O.RowOrder.place 32 c.args.rows.items _ c.in_ok-upper.ensures.items (omega arith) (omega arith) (omega arith) c.requires.rising in
     let upper = page_upper g.O.RowOrder.place 32 c.args.rows.items _ c.in_ok-upper.ensures.tail (omega arith) (omega (arith, c.requires.short)) c.requires.rising in
     let both : c.split_off.new.self.items ++ c.in_ok-upper.upper.items ≡ c.args.rows.items = rw (c.in_ok-upper.ensures.items, c.in_ok-upper.ensures.tail) (take-append-drop 32 c.args.rows.items) in
-    rw c.in_ok-insert.ensures.items (replaced_two c.args.list.now.items c.args.at (omega (arith, c.requires.in_range)) c.args.rows.items c.split_off.new.self.items c.in_ok-upper.upper.items c.in_ok-lower.lower c.in_ok-new.field-0 (c.in_ok-lower.ensures.ok ∙ c.in_ok-from_rows-2.ensures) (c.in_ok-new.ensures.ok ∙ c.in_ok-from_rows-3.ensures) both lower.filled upper.filled)
+    rw c.in_ok-insert.ensures.items (replaced_two c.args.list.now.items c.args.at (omega (arith, c.requires.in_range)) c.args.rows.items c.split_off.new.self.items c.in_ok-upper.upper.items c.in_ok-lower.lower c.in_ok-new.field-0 (c.in_ok-lower.ensures ∙ c.in_ok-from_rows-2.ensures) (c.in_ok-new.ensures ∙ c.in_ok-from_rows-3.ensures) both lower.filled upper.filled)

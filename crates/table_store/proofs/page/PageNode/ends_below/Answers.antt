@@ -1,6 +1,6 @@
 use Rattle.std.proofs.Common.{◌≡◌, ◌-◌, length, get_or, ap, ◌∙◌, arith}
 use Rattle.table_store.proofs.Place.{below_where_last_is}
-use Rattle.table_store.proofs.page.Page.ends_below.Goals as goal
+use Rattle.table_store.proofs.page.PageNode.ends_below.Goals as goal
 
 pub returns : goal.returns
 returns g c =
