@@ -1,6 +1,5 @@
 pub mod Spelled
 pub mod Names
-pub mod Seen
 pub mod Taking
 pub mod Each
 pub mod Parting

@@ -93,9 +93,6 @@ module _ (rules : List FilterRule) where
   right_paths : (a b : List (List ℕ)) → list_all is_path (a ++ b) ≡ true → list_all is_path b ≡ true
   right_paths a b h = (and_parts (list_all is_path a) (list_all is_path b) (sym (list_all-append is_path a b) ∙ h)).1
 
-  froms : List Credit → List (List ℕ)
-  froms cs = map (λ (c : Credit). c.from) cs
-
   credits_paths : (cs : List Credit) → list_all is_path (map (λ (c : Credit). c.from) cs) ≡ true
       → list_all is_path (map (λ (c : Credit). c.from) (filter (λ (c : Credit). is_inside rules c.from) cs)) ≡ true
   credits_paths [] h = refl

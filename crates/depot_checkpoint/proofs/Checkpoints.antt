@@ -1,5 +1,5 @@
 -- What a checkpoint changes in the rows of a depot, and the generation that begins with them.
-use Rattle.std.proofs.Common.{◌≡◌, ◌≢◌, ◌⊎◌, ℕ, ◌+◌, ◌<◌, ◌≤◌, Bool, true, false, List, [], ◌∷◌, Option, Some, None, refl, sym, ap, subst, ◌∙◌, inl, inr, arith}
+use Rattle.std.proofs.Common.{◌≡◌, ◌≢◌, ◌⊎◌, ℕ, ◌+◌, ◌<◌, ◌≤◌, Bool, true, List, [], ◌∷◌, Option, Some, None, refl, sym, ap, subst, ◌∙◌, inl, inr, arith}
 use Rattle.std.proofs.lemmas.Bool.Decides.{nat_tests}
 use Rattle.std.specs.Prelude.{All, ◌==◌, codes, nat_le, option_map, unwrap_or, if◌then◌else◌}
 use Rattle.std.specs.List.{AllByRecursion}
@@ -51,12 +51,6 @@ none_behind generation last = ap (λ (b : Bool). if b then None else Some (gener
   where
     reached : (n : ℕ) → 4095 ≤ n → nat_le 4095 n ≡ true
     reached n last = grind (arith, nat_tests)
-
-pub some_behind : (generation : ℕ) → generation < 4095 → next_generation generation ≡ Some (generation + 1)
-some_behind generation below = ap (λ (b : Bool). if b then None else Some (generation + 1)) (under generation below)
-  where
-    under : (n : ℕ) → n < 4095 → nat_le 4095 n ≡ false
-    under n below = grind (arith, nat_tests)
 
 -- ---- the depot after a checkpoint: of the next generation, or, at the last one, as it was
 

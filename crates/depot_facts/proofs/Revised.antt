@@ -1,5 +1,5 @@
 -- A file has no more revisions than there are numbers of changes.
-use Rattle.std.proofs.Common.{◌≡◌, ◌≤◌, ◌+◌, ℕ, zero, suc, Bool, true, false, List, Option, Some, None, Result, Ok, Err, refl, subst, arith}
+use Rattle.std.proofs.Common.{◌≤◌, ◌+◌, ℕ, zero, suc, Bool, true, false, List, Option, Some, None, Result, Ok, Err, refl, arith}
 use Rattle.std.specs.Prelude.{IfSome, IsSome, IsSomeAnd, option_map, if◌then◌else◌}
 use Rattle.depot_rows.specs.depot_path.Bytes.{same}
 use Rattle.depot_rows.specs.depot_path.Path.{path_of, printed}
@@ -78,15 +78,3 @@ module _ (d : List Deed) (sound : IsSound d) where
       let low = risen 0 text k (λ there. omega arith) h in
       let high = made_low text (suc k) h in
       omega (arith, low, high)
-
-  -- and no more of them, where no change has that number
-  pub rev_small : record_of d (keys.Change 0) ≡ None → (text : List ℕ) (n : ℕ) → HasRev (record_of d) text n → n ≤ top_in (record_of d)
-  rev_small none text zero h = omega arith
-  rev_small none text (suc k) h =
-      let low = risen 1 text k (λ there. go (change_of (record_of d (keys.Rev text 1))) (made_in text 1 there)) h in
-      let high = made_low text (suc k) h in
-      omega (arith, low, high)
-    where
-      go : (c : ℕ) → IsSomeAnd (record_of d (keys.Change c)) IsSubmitted → 1 ≤ c
-      go zero there = absurd (subst (λ (o : Option Record). IsSomeAnd o IsSubmitted) none there)
-      go (suc c) there = omega arith

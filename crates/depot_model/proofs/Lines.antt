@@ -246,9 +246,6 @@ not_falling from (l ∷ lines) up (suc i) (suc j) d le h = not_falling (suc l.li
 
 -- ---- what is kept
 
-pub told_none : AreTold 0 []
-told_none = record { ahead = λ n le. refl; told = λ path n. refl; rising = λ path. tt; bytes = λ n. tt }
-
 no_bytes : (o : Option FileLine) → option_map (λ (l : FileLine). l.bytes) o ≡ None → o ≡ None
 no_bytes None e = refl
 no_bytes (Some l) e = absurd cc

@@ -7,10 +7,10 @@ use Rattle.std.proofs.lemmas.Grind.{get_or-set_at}
 use Rattle.std.proofs.lemmas.List.{get_or-set_other, get_or-replicate, get_or_append_left, get_or_at, length-append, length-replicate, length-set, length-drop, drop_more, drop_all, drop-drop, append-nil, append_assoc}
 use Rattle.depot_path.specs.Fit.{stands_for, texts, first_texts, fits, is_specifier}
 use Rattle.depot_path.specs.Filling.{IsColumn, AreColumns, IsFirst}
-use Rattle.depot_path.specs.Rows.{with_byte, without_byte}
+use Rattle.depot_path.specs.Rows.{with_byte}
 use Rattle.depot_path.specs.declared.piece.Piece.{Piece}
 use Rattle.depot_path.specs.declared.piece.Piece.TheVariants.{Byte, Star, Dots, Place}
-use Rattle.depot_path.proofs.Rows.{step, begin}
+use Rattle.depot_path.proofs.Rows.{step}
 
 -- ---- columns
 
@@ -44,28 +44,6 @@ pub record Joining (piece : Piece) (text : List ℕ) (initial column : List Bool
   pub within : at ≤ length text
   pub size : length column ≡ length text + 1
   pub each : (pieces : List Piece) → IsColumn pieces text initial → Joined piece pieces text column at below
-
-join_end : (piece : Piece) (pieces : List Piece) (text : List ℕ) (column : List Bool) (r : Bool) → IsColumn pieces text column →
-    r ≡ without_byte piece (get_or column (length text) false) → Joined piece pieces text (slice_set column (length text) r) (length text) (get_or column (length text) false)
-join_end piece pieces text column r h e =
-    let last : drop (length text) text ≡ [] = drop_all (length text) text (omega arith) in
-    record {
-      under = h.at (length text) (omega arith);
-      before = λ k low. get_or-set_other column (length text) k r false (λ same. omega (arith, same, low)) ∙ h.at k (omega (arith, low));
-      done = λ k low high.
-          let same : k ≡ length text = omega (arith, low, high) in
-          get_or-set_at column (length text) k r false same (omega (arith, h.size)) ∙ e
-          ∙ ap (λ c. without_byte piece c) (h.at (length text) (omega arith) ∙ ap (λ t. fits pieces t) last)
-          ∙ sym (begin piece pieces) ∙ ap (λ t. fits (piece ∷ pieces) t) (sym (ap (λ i. drop i text) same ∙ last));
-    }
-
-pub joining_end : (piece : Piece) (text : List ℕ) (column : List Bool) (r : Bool) → length column ≡ length text + 1 → r ≡ without_byte piece (get_or column (length text) false) →
-    Joining piece text column (slice_set column (length text) r) (length text) (get_or column (length text) false)
-joining_end piece text column r size e = record {
-  within = omega arith;
-  size = length-set column (length text) r ∙ size;
-  each = λ pieces h. join_end piece pieces text column r h e;
-}
 
 join_at : (piece : Piece) (pieces : List Piece) (text : List ℕ) (column : List Bool) (k d : ℕ) (below r : Bool) → Joined piece pieces text column (k + 1) below →
     k + 1 ≤ length text → length column ≡ length text + 1 → r ≡ with_byte piece (get_or text k d) (get_or column (k + 1) false) below (get_or column k false) →
@@ -108,13 +86,6 @@ kept (Byte b) pieces text column columns e h k = absurd cc
 kept Star pieces text column columns e h k = (columns, column, refl, h, k)
 kept Dots pieces text column columns e h k = (columns, column, refl, h, k)
 kept (Place n) pieces text column columns e h k = (columns, column, refl, h, k)
-
-pub passed_over : (piece : Piece) (pieces : List Piece) (text : List ℕ) (columns : List (List Bool)) → is_specifier piece ≡ false →
-    AreColumns pieces text columns → AreColumns (piece ∷ pieces) text columns
-passed_over (Byte b) pieces text columns e k = k
-passed_over Star pieces text columns e k = absurd cc
-passed_over Dots pieces text columns e k = absurd cc
-passed_over (Place n) pieces text columns e k = absurd cc
 
 pub next_columns : (pieces : List Piece) (text : List ℕ) (k : ℕ) (d : Piece) (columns : List (List Bool)) → k < length pieces →
     AreColumns (get_or pieces k d ∷ drop (k + 1) pieces) text columns → AreColumns (drop k pieces) text columns
@@ -379,10 +350,3 @@ nothing_left (x ∷ t) e = absurd cc
 pub walked : (pieces : List Piece) (text : List ℕ) (at : ℕ) (columns : List (List Bool)) (done : Texts) → Walking pieces text [] at columns done → Some done ≡ texts pieces text
 walked pieces text at columns done h =
     ap (λ ts. Some ts) (sym (append-nil done)) ∙ ap (λ o. option_map (λ us. done ++ us) o) (sym (nothing_left (drop at text) h.fit)) ∙ h.whole
-
-same_option : (o : Option Texts) → option_map (λ us. [] ++ us) o ≡ o
-same_option None = refl
-same_option (Some us) = refl
-
-pub walk_begins : (pieces : List Piece) (text : List ℕ) (columns : List (List Bool)) → fits pieces text ≡ true → AreColumns pieces text columns → Walking pieces text pieces 0 columns []
-walk_begins pieces text columns e h = record { within = omega arith; left = h; fit = e; whole = same_option (texts pieces text) }

@@ -330,9 +330,6 @@ is_two_dots (Percent ∷ part) = refl
 pub escaped_plain : (b : ℕ) → IsPlain b → escaped b ≡ b ∷ []
 escaped_plain b h = simp (h.no_at, h.no_hash, h.no_star, h.no_percent)
 
-length_cons : (b : ℕ) (xs ys : List ℕ) → length xs ≡ length ys → length (b ∷ xs) ≡ length (b ∷ ys)
-length_cons b xs ys e = ap (λ n. suc n) e
-
 pub same_length : (marks : List Mark) → AreMarks marks → length (spelled marks) ≡ length (printed (meant marks))
 same_length [] h = refl
 same_length (Plain b ∷ marks) h = ap (λ n. suc n) (same_length marks h.1) ∙ ap (λ e. length (e ++ printed (meant marks))) (sym (escaped_plain b h.0))

@@ -19,7 +19,7 @@ use Rattle.depot_rows.specs.depot_model.Step.{Step, nothing, tells, does, refuse
 use Rattle.depot_rows.specs.depot_model.Steps.Adding.{spelled, files_to_add, opening, add_file, add}
 use Rattle.depot_rows.specs.depot_model.Steps.Editing.{had_type, new_type, next_opening, reopened, open_file, open_had, edit, delete}
 use Rattle.depot_rows.specs.depot_model.Steps.Editing as editing
-use Rattle.depot_rows.specs.depot_model.Steps.History.{print_row, print_chosen, print, stat_row}
+use Rattle.depot_rows.specs.depot_model.Steps.History.{print_row, print_chosen, print}
 use Rattle.depot_rows.specs.depot_model.Steps.Jobs.{jobs, job_row, fixes, is_wanted, fix_row}
 use Rattle.depot_rows.specs.depot_model.Steps.Labels.{labels}
 use Rattle.depot_rows.specs.depot_model.Steps.Labels as label_steps
@@ -62,12 +62,6 @@ print_seen : (path : List ℕ) (o : Option Numbered)
     ≡ (elim o as (λ _. Step) [ None ↦ nothing | Some r ↦ tells (print_row path r ∷ []) ])
 print_seen path None = refl
 print_seen path (Some r) = refl
-
-stat_seen : (d : List Deed) (caller : Caller) (path : List ℕ) (o : Option Numbered)
-    → (elim (option_map seen_number o) as (λ _. Step) [ None ↦ nothing | Some r ↦ tells (stat_row d caller path r ∷ []) ])
-    ≡ (elim o as (λ _. Step) [ None ↦ nothing | Some r ↦ tells (stat_row d caller path r ∷ []) ])
-stat_seen d caller path None = refl
-stat_seen d caller path (Some r) = refl
 
 pub type_seen : (o : Option Revision) → (elim (option_map seen o) as (λ _. List ℕ) [ None ↦ codes "text" | Some r ↦ r.entry.file_type ])
     ≡ (elim o as (λ _. List ℕ) [ None ↦ codes "text" | Some r ↦ r.entry.file_type ])

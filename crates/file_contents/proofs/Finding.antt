@@ -1,6 +1,6 @@
 -- Where contents are found, and that the first that is found is taken.
 use Rattle.std.proofs.Common.{◌≡◌, ℕ, Bool, true, false, List, Option, Some, None, refl, sym, ap, subst, ◌∙◌}
-use Rattle.std.specs.Prelude.{option_map, if◌then◌else◌, is_none}
+use Rattle.std.specs.Prelude.{option_map, if◌then◌else◌}
 use Rattle.std.specs.Option.{option_or}
 use Rattle.depot_rows.specs.depot_path.Path.{is_path, printed}
 use Rattle.depot_rows.specs.db_records.declared.key.Key.TheVariants as keys
@@ -17,10 +17,10 @@ use Rattle.depot_rows.specs.depot_model.Rules.{IsSound}
 use Rattle.depot_rows.specs.depot_model.Steps.Submitting.{content_at}
 use Rattle.depot_rows.specs.Standing.{HasRows}
 use Rattle.reply_rows.specs.Made.{IsSpotOf}
-use Rattle.file_contents.specs.Content.{IsFound, found_in_row, is_absent}
+use Rattle.file_contents.specs.Content.{IsFound, found_in_row}
 use Rattle.file_contents.specs.Contents.{TellsContent}
 use Rattle.file_contents.specs.declared.content.Found.{Found}
-use Rattle.file_contents.specs.declared.content.Found.TheVariants.{Old, Block, Absent}
+use Rattle.file_contents.specs.declared.content.Found.TheVariants.{Old, Absent}
 use Rattle.file_contents.proofs.ContentRows.{said, told, untold}
 
 abbrev is_rev : Record → Bool
@@ -67,29 +67,6 @@ module _ (all : AllRows) (d : List Deed) (path : List ℕ) (n : ℕ) (sound : Is
 -- ---- one of two
 
 module _ (all : AllRows) (d : List Deed) where
-  -- what is there is taken, whatever else there is
-  pub first_found : (found : Found) (x y : Option (List ℕ)) → is_absent found ≡ false → IsFound all d found x → IsFound all d found (option_or x y)
-  first_found (Old stored) (Some bytes) y e h = h
-  first_found (Old stored) None y e h = absurd h
-  first_found (Block text) (Some bytes) y e h = h
-  first_found (Block text) None y e h = absurd h
-  first_found Absent x y e h = absurd (let no : true ≡ false = e in cc)
-
-  -- what isn't there leaves the other
-  pub second_found : (found other : Found) (x y : Option (List ℕ)) → is_absent found ≡ true → IsFound all d found x → IsFound all d other y → IsFound all d other (option_or x y)
-  second_found Absent other None y e h k = k
-  second_found Absent other (Some bytes) y e h k = absurd h
-  second_found (Old stored) other x y e h k = absurd (let no : false ≡ true = e in cc)
-  second_found (Block text) other x y e h k = absurd (let no : false ≡ true = e in cc)
-
-  -- an answer is absent where there is no content
-  pub absent_is : (found : Found) (x : Option (List ℕ)) → IsFound all d found x → is_absent found ≡ is_none x
-  absent_is (Old stored) (Some bytes) h = refl
-  absent_is (Old stored) None h = absurd h
-  absent_is (Block text) (Some bytes) h = refl
-  absent_is (Block text) None h = absurd h
-  absent_is Absent (Some bytes) h = absurd h
-  absent_is Absent None h = refl
 
   -- a content that is there, and one that isn't
   pub is_first : (found : Found) (b : List ℕ) (o y : Option (List ℕ)) → Some b ≡ o → IsFound all d found (Some b) → IsFound all d found (option_or o y)

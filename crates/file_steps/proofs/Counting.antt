@@ -148,9 +148,6 @@ module _ (paths : List (List ℕ)) (p : List ℕ) where
         ∙ sym (append_assoc (reverse (drop (at + 1) paths)) (q ∷ []) (path_inserted p (reverse (take at paths))))
         ∙ ap (λ (x : List (List ℕ)). x ++ path_inserted p (reverse (take at paths))) (sym back)
 
-  pub it_goes_last : looked 0 → reverse (insert paths 0 p) ≡ path_inserted p (reverse paths)
-  it_goes_last h = reverse-append (p ∷ []) paths ∙ sym h
-
 -- ---- too many files
 
 pub not_many : (n : ℕ) → n ≤ 10000 → false ≡ nat_lt 10000 n

@@ -1,11 +1,11 @@
 -- The directories above a path are its fronts before slashes, and those of files that a depot has are those that an argument asks for.
-use Rattle.std.proofs.Common.{◌≡◌, ℕ, suc, ◌+◌, ◌-◌, ◌<◌, ◌≤◌, Bool, true, false, cond, List, [], ◌∷◌, ◌++◌, Option, Some, None, refl, sym, ap, subst, ◌∙◌, append_assoc, append-nil, arith, drop-cons, get_or}
+use Rattle.std.proofs.Common.{◌≡◌, ℕ, ◌+◌, ◌-◌, ◌≤◌, Bool, true, false, cond, List, [], ◌∷◌, ◌++◌, Option, Some, None, refl, sym, ap, subst, ◌∙◌, append_assoc, append-nil, arith}
 use Rattle.std.specs.Prelude.{◌||◌, ◌&&◌, ◌==◌, codes, drop, filter, filter_map, flat_map, if◌then◌else◌, length, nat_eq, take}
 use Rattle.std.specs.List.{cons_option, list_all, list_any, onto_first, slice_split}
 use Rattle.std.specs.Option.{option_to_list}
 use Rattle.std.proofs.lemmas.Bool.{eqb-true, false≢true, and_parts}
 use Rattle.std.proofs.lemmas.Grind.{flat_map-append}
-use Rattle.std.proofs.lemmas.List.{drop_all, take-append-drop, take_more}
+use Rattle.std.proofs.lemmas.List.{drop_all, take-append-drop}
 use Rattle.depot_rows.proofs.depot_path.Rows.{begins_literal}
 use Rattle.depot_rows.specs.depot_path.Bytes.{begins_with}
 use Rattle.depot_rows.specs.depot_path.Fit.{fits}
@@ -34,7 +34,7 @@ use Rattle.named_files.specs.declared.listing.Listing.TheVariants.{Submitted}
 use Rattle.depot_rows.specs.Rising.{Rise}
 use Rattle.named_files.proofs.Told.{files_rise}
 use Rattle.revision_reads.specs.Shown.{shown_in}
-use Rattle.history_query.specs.Directories.{all_directories, all_fitting, begun_directories, directories_of, fitting_inserted}
+use Rattle.history_query.specs.Directories.{all_directories, all_fitting, begun_directories, directories_of}
 use Rattle.history_query.proofs.Fitting.{fitting_on, none_fits}
 
 -- the fronts of a text that end before a slash of its rest
@@ -122,9 +122,6 @@ two_slashes path is = sym (same-is (codes "//") (take 2 path) (slashes_of _ _ _ 
 -- a path is its two slashes with what follows them
 pub whole : (path : List ℕ) → is_path path ≡ true → (0x2F ∷ 0x2F ∷ []) ++ drop 2 path ≡ path
 whole path is = ap (λ (t : List ℕ). t ++ drop 2 path) (sym (two_slashes path is)) ∙ take-append-drop 2 path
-
-pub two_bytes : (path : List ℕ) → is_path path ≡ true → 2 ≤ length path
-two_bytes path is = subst (λ (t : List ℕ). 2 ≤ length t) (whole path is) (omega arith)
 
 -- ---- a path whose directory fits begins with the literal text
 
@@ -320,28 +317,6 @@ submitted_are_paths d sound = all_paths (submitted d) (files_rise Submitted d so
 
 -- ---- the walk from the end of a path
 
-pub one_before : (pattern : List Piece) (path : List ℕ) (at : ℕ) (texts : List (List ℕ)) → at < length path
-    → all_fitting pattern (slash_fronts (take at path) (drop at path)) texts
-    ≡ (if get_or path at 0 == 0x2F then fitting_inserted pattern (take at path) (all_fitting pattern (slash_fronts (take (at + 1) path) (drop (at + 1) path)) texts)
-    else all_fitting pattern (slash_fronts (take (at + 1) path) (drop (at + 1) path)) texts)
-one_before pattern path at texts low =
-    ap (λ (rest : List ℕ). all_fitting pattern (slash_fronts (take at path) rest) texts) (drop-cons path at 0 low)
-    ∙ go (get_or path at 0 == 0x2F)
-    ∙ (λ i. if get_or path at 0 == 0x2F then fitting_inserted pattern (take at path) (later i) else later i)
-  where
-    next : suc at ≡ at + 1
-    next = omega arith
-
-    later : all_fitting pattern (slash_fronts (take at path ++ get_or path at 0 ∷ []) (drop (suc at) path)) texts
-        ≡ all_fitting pattern (slash_fronts (take (at + 1) path) (drop (at + 1) path)) texts
-    later = λ i. all_fitting pattern (slash_fronts (sym (take_more path at 0 low) i) (drop (next i) path)) texts
-
-    go : (b : Bool) → all_fitting pattern (if b then take at path ∷ slash_fronts (take at path ++ get_or path at 0 ∷ []) (drop (suc at) path) else slash_fronts (take at path ++ get_or path at 0 ∷ []) (drop (suc at) path)) texts
-        ≡ (if b then fitting_inserted pattern (take at path) (all_fitting pattern (slash_fronts (take at path ++ get_or path at 0 ∷ []) (drop (suc at) path)) texts)
-        else all_fitting pattern (slash_fronts (take at path ++ get_or path at 0 ∷ []) (drop (suc at) path)) texts)
-    go true = refl
-    go false = refl
-
 abbrev pub fitting_from : List Piece → List ℕ → ℕ → List (List ℕ) → List (List ℕ)
 fitting_from pattern path at texts = all_fitting pattern (slash_fronts (take at path) (drop at path)) texts
 
@@ -349,20 +324,6 @@ fitting_from pattern path at texts = all_fitting pattern (slash_fronts (take at 
 pub at_end : (pattern : List Piece) (path : List ℕ) (n : ℕ) (texts : List (List ℕ)) → n ≡ length path → texts ≡ fitting_from pattern path n texts
 at_end pattern path n texts e =
     sym (ap (λ (rest : List ℕ). all_fitting pattern (slash_fronts (take n path) rest) texts) (ap (λ (k : ℕ). drop k path) e ∙ drop_all (length path) path (omega arith)))
-
--- one place before
-pub one_step : (pattern : List Piece) (path : List ℕ) (n : ℕ) (texts set more : List (List ℕ)) → 2 < n → n ≤ length path → set ≡ fitting_from pattern path n texts
-    → more ≡ (if get_or path (n - 1) 0 == 0x2F then fitting_inserted pattern (take (n - 1) path) set else set) → more ≡ fitting_from pattern path (n - 1) texts
-one_step pattern path n texts set more low high is put =
-    put
-    ∙ (λ i. if get_or path (n - 1) 0 == 0x2F then fitting_inserted pattern (take (n - 1) path) (there i) else there i)
-    ∙ sym (one_before pattern path (n - 1) texts (omega (arith, low, high)))
-  where
-    back : (m : ℕ) → 2 < m → m ≡ (m - 1) + 1
-    back m h = omega (arith, h)
-
-    there : set ≡ fitting_from pattern path ((n - 1) + 1) texts
-    there = is ∙ ap (λ (k : ℕ). fitting_from pattern path k texts) (back n low)
 
 -- at the first two slashes all are there
 pub at_two : (pattern : List Piece) (path bytes : List ℕ) (n : ℕ) (texts set : List (List ℕ)) → bytes ≡ path → is_path bytes ≡ true → 2 ≤ n → n ≤ 2

@@ -4,12 +4,9 @@ use Rattle.std.specs.Prelude.{IsTrue, ◌&&◌, not, bytes_eq, codes, if◌then�
 use Rattle.depot_rows.specs.depot_path.Path.{is_path}
 use Rattle.depot_rows.proofs.depot_path.Paths.{prints_path}
 use Rattle.depot_rows.specs.db_records.declared.record.Record.{Record}
-use Rattle.depot_rows.specs.db_records.declared.record.Record.TheVariants.{Change}
-use Rattle.depot_rows.specs.db_records.declared.rows.ChangeRecord.{ChangeRecord}
-use Rattle.depot_rows.specs.db_records.declared.rows.RevRecord.{RevRecord}
 use Rattle.depot_rows.specs.depot_model.Choice.{Choice, PassedOver, At}
 use Rattle.depot_rows.specs.depot_model.Deeds.{Deed, Action, Add, Edit, Delete, Branch, Integrate, MoveAdd, MoveDelete}
-use Rattle.depot_rows.specs.depot_model.Records.{change_record, rev_record}
+use Rattle.depot_rows.specs.depot_model.Records.{rev_record}
 use Rattle.depot_rows.specs.depot_model.Revisions.{Revision, revision, is_live_action}
 use Rattle.depot_rows.specs.depot_model.Rows.{action_word}
 use Rattle.depot_rows.specs.depot_model.Rules.{IsSound}
@@ -17,7 +14,7 @@ use Rattle.depot_rows.specs.depot_model.Step.{nothing, tells}
 use Rattle.depot_rows.specs.depot_model.Steps.Listing.{Numbered, file_row, numbered, tells_revision}
 use Rattle.reply_rows.proofs.Bare.{AreBare}
 use Rattle.revision_reads.proofs.Landed.{change_row}
-use Rattle.revision_reads.specs.History.{numbered_record, seen}
+use Rattle.revision_reads.specs.History.{numbered_record}
 use Rattle.history_query.specs.Listing.{rows_told}
 use Rattle.history_query.specs.Telling.{revision_records, with_landed}
 
@@ -62,9 +59,3 @@ files_bare live path (Some r) = go (live && not (not (bytes_eq (action_word r.ma
     go : (b : Bool) → AreBare (if b then [] else file_row path r ∷ [])
     go true = tt
     go false = (refl, tt)
-
--- a revision with the change that made it, if that is there
-pub change_with : (d : List Deed) (row : RevRecord) (found : Option ChangeRecord) → option_map (λ r. Change r) found ≡ change_record d row.change
-    → option_map (λ (c : ChangeRecord). (seen row, Change c)) found ≡ with_landed d (Some (seen row))
-change_with d row None e = ap (option_map (λ (c : Record). (seen row, c))) e
-change_with d row (Some change) e = ap (option_map (λ (c : Record). (seen row, c))) e

@@ -1,7 +1,6 @@
 -- Deeds behind others.
-use Rattle.std.proofs.Common.{◌≡◌, List, [], ◌∷◌, ◌++◌, Some, ap, ◌∙◌, append_assoc}
+use Rattle.std.proofs.Common.{◌≡◌, List, [], ◌∷◌, ◌++◌, ap, ◌∙◌, append_assoc}
 use Rattle.depot_rows.specs.depot_model.Deeds.{Deed}
-use Rattle.depot_rows.specs.Deed.{deed_of}
 use Rattle.depot_rows.specs.declared.deed.Deed.{Deed as Done}
 use Rattle.depot_facts.specs.Following.{AreTold}
 use Rattle.job_fixes.specs.Telling.{Tells}
@@ -14,9 +13,6 @@ told_on (y ∷ a) b (x ∷ s) t h k = (h.0, told_on a b s t h.1 k)
 
 pub tells_none : (before now : List Done) → now ≡ before ++ [] → Tells before now []
 tells_none before now e = ([], (e, tt))
-
-pub tells_one : (before now : List Done) (done : Done) (deed : Deed) → now ≡ before ++ done ∷ [] → deed_of done ≡ Some deed → Tells before now (deed ∷ [])
-tells_one before now done deed e is = (done ∷ [], (e, (is, tt)))
 
 pub tells_on : (a b c : List Done) (s t : List Deed) → Tells a b s → Tells b c t → Tells a c (s ++ t)
 tells_on a b c s t h k =

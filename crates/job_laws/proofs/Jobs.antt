@@ -72,9 +72,6 @@ module _ (d : List Deed) (named : AreNamed d) (n : ℕ) (name : List ℕ) where
   abbrev Submits : List Deed → Type 0
   Submits deeds = job (after d deeds) name ≡ closed_where (closes_by_submit d name n deeds) (job d name)
 
-  none_submits : Submits []
-  none_submits = refl
-
   landed_submits : (request : Request) (text : List ℕ) (openings : List Opening) → Submits (landed d request n text openings).deeds
   landed_submits request text openings =
       still d name (after d (landed d request n text openings).deeds) (list_any (is_fix d name) (fixes_of d n)) (has_fix d n name) fixed_alike

@@ -1,13 +1,11 @@
 -- Numbers of jobs, and the names that they make.
-use Rattle.std.proofs.Common.{◌≡◌, ◌≤◌, ◌<◌, ◌+◌, ℕ, Bool, true, false, List, [], ◌∷◌, ◌++◌, drop, map, Some, None, refl, sym, ap, ◌∙◌, arith}
-use Rattle.std.specs.Prelude.{codes, fold, max, min, nat_le, unwrap_or, if◌then◌else◌}
+use Rattle.std.proofs.Common.{◌≡◌, ◌≤◌, ◌<◌, ◌+◌, ℕ, Bool, true, false, List, [], drop, Some, None, refl, sym, ap, ◌∙◌, arith}
+use Rattle.std.specs.Prelude.{codes, min, nat_le, unwrap_or, if◌then◌else◌}
 use Rattle.std.proofs.lemmas.Bool.Decides.{nat_tests}
 use Rattle.std.proofs.lemmas.List.{drop_all}
-use Rattle.std.proofs.lemmas.List.Sums.{fold-append}
 use Rattle.depot_rows.specs.depot_path.Digits.{up_to}
-use Rattle.job_fixes.proofs.Steps.{map_on}
 use Rattle.depot_rows.specs.depot_model.Deeds.{Deed}
-use Rattle.depot_rows.specs.depot_model.Fixes.{job_name, job_number, last_job}
+use Rattle.depot_rows.specs.depot_model.Fixes.{job_name, last_job}
 use Rattle.depot_rows.specs.depot_model.Steps.Jobs.{is_new, saved_name}
 
 below : (x : ℕ) → nat_le x 999999 ≡ true → x ≡ min 999999 x
@@ -23,16 +21,6 @@ at_most x = go (nat_le x 999999) refl
     go : (b : Bool) → nat_le x 999999 ≡ b → unwrap_or (if b then Some x else None) 999999 ≡ min 999999 x
     go true small = below x small
     go false large = above x large
-
--- the greatest of some numbers and one more
-greater : (a b : ℕ) → max (min 999999 b) (min 999999 a) ≡ min 999999 (max a b)
-greater a b = grind arith
-
-pub greatest_more : (names : List (List ℕ)) (name : List ℕ) (was new number : ℕ) → was ≡ min 999999 (fold max 0 (map job_number names))
-    → number ≡ min 999999 (job_number name) → new ≡ max number was → new ≡ min 999999 (fold max 0 (map job_number (names ++ name ∷ [])))
-greatest_more names name was new number e k is =
-    is ∙ (λ i. max (k i) (e i)) ∙ greater (fold max 0 (map job_number names)) (job_number name)
-    ∙ ap (min 999999) (sym (fold-append max 0 (map job_number names) (job_number name ∷ []))) ∙ ap (λ (l : List ℕ). min 999999 (fold max 0 l)) (sym (map_on job_number names name))
 
 -- no zero stands before six digits
 pub no_zeros : (n : ℕ) → 6 ≤ n → [] ≡ drop n (codes "000000")

@@ -2,7 +2,6 @@
 use Rattle.std.proofs.Common.{◌≡◌, ℕ, zero, suc, ◌+◌, ◌-◌, ◌<◌, ◌≤◌, Bool, true, false, cond, leb, List, [], ◌∷◌, ◌++◌, length, take, drop, refl, sym, ap, subst, ◌∙◌, append_assoc, arith, length-append}
 use Rattle.std.proofs.Math.Seq.{take-append-add, drop-append_seam}
 use Rattle.std.proofs.lemmas.List.{take-append-drop, length-take-le}
-use Rattle.std.proofs.lemmas.Bool.{le-leb, lt-leb}
 use Rattle.db_records.specs.declared.change.Op.{Op}
 use Rattle.db_records.specs.declared.change.Op.TheVariants.{Put, Replace, Remove}
 use Rattle.db_records.specs.declared.change.Change.{Change}
@@ -102,16 +101,6 @@ pub window_wrong : (size : ℕ) (bytes window : List ℕ) (part : Part) (left : 
 window_wrong size bytes window part left e r =
     let n : length bytes - length window ≡ length bytes - size = ap (λ (w : List ℕ). length bytes - length w) e ∙ behind_is size bytes in
     ap (window_read size bytes) (ap record_at (sym e) ∙ r) ∙ ap (λ (k : ℕ). Wrong Field (left + k)) (sym n)
-
-pub window_cut : (size : ℕ) (bytes window : List ℕ) → window ≡ take size bytes → record_at window ≡ Ends → length bytes - length window ≡ 0 → window_at size bytes ≡ Ends
-window_cut size bytes window e r none =
-    let n : length bytes - length window ≡ length bytes - size = ap (λ (w : List ℕ). length bytes - length w) e ∙ behind_is size bytes in
-    ap (window_read size bytes) (ap record_at (sym e) ∙ r) ∙ ap (λ (b : Bool). tested b (length bytes - size)) (le-leb (length bytes) size (omega arith))
-
-pub window_open : (size : ℕ) (bytes window : List ℕ) → window ≡ take size bytes → record_at window ≡ Ends → 0 < length bytes - length window → window_at size bytes ≡ Wrong Field (length bytes - length window)
-window_open size bytes window e r some =
-    let n : length bytes - length window ≡ length bytes - size = ap (λ (w : List ℕ). length bytes - length w) e ∙ behind_is size bytes in
-    ap (window_read size bytes) (ap record_at (sym e) ∙ r) ∙ ap (λ (b : Bool). tested b (length bytes - size)) (lt-leb (length bytes) size (omega arith)) ∙ ap (λ (k : ℕ). Wrong Field k) (sym n)
 
 -- a record that was read of a window
 pub window_one : (size : ℕ) (bytes window : List ℕ) (op : Op) (row : Record) (n : ℕ) → window ≡ take size bytes → IsRecord row → take n window ≡ spelling op row → n ≤ length window

@@ -11,9 +11,6 @@ use Rattle.journal_groups.proofs.Texts.{head_again, head_done, group_again, mark
 use Rattle.journal_groups.proofs.Chained.{head_reads, marked_at, marked_reads, opened, mark_is}
 use Rattle.journal_groups.proofs.Halts.{IsWrong, begins_ends, none_wrong, wrong_then, second, first_ends, first_wrong, way_of, no_done_ends, no_done_wrong, no_ends_wrong, body_ends, body_goes, body_halts}
 
-abbrev done : {A : Type 0} → A → List ℕ → Reading A
-done a rest = Done a rest
-
 wrong_ends : {A : Type 0} (part : Part) (left : ℕ) → (let r : Reading A = Wrong part left in r) ≡ Ends → ⊥
 wrong_ends part left e = cc
 

@@ -76,9 +76,6 @@ inside_window_read size bytes (Wrong part left) i =
 pub inside_window : (size : ℕ) (bytes : List ℕ) → Inside bytes (window_at size bytes)
 inside_window size bytes = inside_window_read size bytes (record_at (take size bytes)) (inside_read record_at _ _ (take size bytes) (record_at (take size bytes)) record_reads refl)
 
-inside_done : {A : Type 0} (a : A) (bytes : List ℕ) → Inside bytes (let r : Reading A = Done a bytes in r)
-inside_done a bytes = ([], refl)
-
 inside_below : (steps size : ℕ) (bytes : List ℕ) → Inside bytes (body_below steps size bytes)
 inside_below steps zero bytes = ([], refl)
 inside_below zero (suc size) bytes = tt

@@ -26,12 +26,6 @@ no_ends a rest e = cc
 no_wrong : {A : Type 0} (a : A) (rest : List ℕ) (part : Part) (left : ℕ) → done a rest ≡ Wrong part left → ⊥
 no_wrong a rest part left e = cc
 
--- what fails isn't read
-fails_never : {A : Type 0} (fault : RecordFault) (P : Type 0) (r : Reading A) (a : A) (rest : List ℕ) → Fails fault r → r ≡ Done a rest → IfOfBytes fault P
-fails_never faults.Memory P r a rest e is = tt
-fails_never faults.Cut P r a rest e is = absurd (no_ends a rest (sym is ∙ e))
-fails_never (faults.Wrong part left) P r a rest e is = absurd (no_wrong a rest part left (sym is ∙ e))
-
 -- no record stands there
 abbrev pub NoRecord : ℕ → List ℕ → Type 0
 NoRecord size bytes = (change : Change) (rest : List ℕ) → window_at size bytes ≡ Done change rest → ⊥

@@ -15,7 +15,7 @@ use Rattle.lock_machine.specs.Runs.{AllServed, AllServedIn}
 use Rattle.command_needs.specs.Sets.{locks_in, need_in}
 use Rattle.lock_core.specs.Works.{IsWorkShown, gathered}
 use Rattle.lock_machine.specs.declared.stage.Stage.{Stage}
-use Rattle.lock_machine.specs.declared.stage.Stage.TheVariants.{Gathering, Committed}
+use Rattle.lock_machine.specs.declared.stage.Stage.TheVariants.{Gathering}
 use Rattle.lock_core.specs.declared.work.Work.{Work}
 use Rattle.lock_core.proofs.Working.{gathered_shown}
 use Rattle.std.proofs.Common.{Global, Vec, take, drop}
@@ -90,14 +90,6 @@ module _ (order : List Commit) where
       let P : Option model.Work → Type 0 = λ work. IsShownAs order left (Some (gathered w)) (moved needs_of order q.left work) in
       let Q : Stage → Type 0 = λ st. IsShownAs order left (Some (gathered w)) (record { left = q.left; work = worked needs_of order v st }) in
       subst P (sym is) (subst Q (sym gathers) (record { fresh = h.fresh; left_is = h.left_is; work_is = gathered_shown order w v shown gathers })))
-
-  pub released_as : (left : List Work) (w : Work) → w.stage ≡ Committed → (q : model.Party) → IsShownAs order left (Some w) q
-      → IsShownAs order left None (moved needs_of order q.left q.work)
-  released_as left w stage q h = with_work left w q h q.work refl (λ (x : model.Party). IsShownAs order left None (moved needs_of order x.left x.work)) (λ v is shown.
-      let commits : v.stage ≡ Committed = sym shown.stage ∙ stage in
-      let P : Option model.Work → Type 0 = λ work. IsShownAs order left None (moved needs_of order q.left work) in
-      let Q : Stage → Type 0 = λ st. IsShownAs order left None (record { left = q.left; work = worked needs_of order v st }) in
-      subst P (sym is) (subst Q (sym commits) (record { fresh = h.fresh; left_is = h.left_is; work_is = tt })))
 
   pub begun_by : (old : List Work) (work : Option Work) (front : List Work) (next : Option Work) (q : model.Party) → work ≡ None → (next ≡ None → front ≡ []) → old ≡ front ++ option_to_list next
       → IsShownAs order old work q → IsShownAs order front next (moved needs_of order q.left q.work)

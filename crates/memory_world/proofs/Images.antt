@@ -62,14 +62,6 @@ between from to k = (leb from k) && (ltb k to)
 chosen : (b : Bool) (x y : ℕ) → b ≡ false → (if b then x else y) ≡ y
 chosen b x y is = ap (λ (t : Bool). if t then x else y) is
 
--- one list for a file of an image
-module _ (s : State) (c d : Files) (file : ℕ) (bytes : List ℕ) (is : (f : ℕ) → d f ≡ put file bytes c f) where
-  here : d file ≡ bytes
-  here = is file ∙ put_same file file bytes c refl
-
-  elsewhere : (f : ℕ) → f ≢ file → d f ≡ c f
-  elsewhere f other = is f ∙ put_other file f bytes c other
-
 -- A write that may or may not have been made, in whole or in part.
 module _ (file at count : ℕ) (s : State) (c : Files) (ordered : s.least file ≤ s.greatest file) (image : IsImage (broken_write file at count s) c) where
   length_before : ℕ

@@ -1,8 +1,7 @@
 -- Journals as they were at earlier moments.
-use Rattle.std.proofs.Common.{◌≡◌, ◌≤◌, ◌<◌, ◌+◌, ◌-◌, ◌++◌, ℕ, zero, suc, List, [], ◌∷◌, length, take, min, get_or, refl, sym, ap, subst, ◌∙◌, arith, length-append, length-take}
+use Rattle.std.proofs.Common.{◌≡◌, ◌≤◌, ◌<◌, ◌+◌, ◌-◌, ◌++◌, ℕ, zero, suc, List, [], ◌∷◌, length, take, min, refl, sym, ap, subst, ◌∙◌, arith, length-append, length-take}
 use Rattle.std.specs.List.{concat}
-use Rattle.std.proofs.lemmas.List.{take_more, take_all, get_or_append_left, get_or_past, get_or-take}
-use Rattle.std.proofs.Math.Seq.{get_or-append_seam}
+use Rattle.std.proofs.lemmas.List.{take_more, take_all}
 use Rattle.std.proofs.lemmas.List.Folds.{concat-append}
 use Rattle.outside_api.specs.Link.{text_of, IsEarlier}
 use Rattle.memory_world.specs.Link.{journal_of, journal_then}
@@ -43,24 +42,6 @@ pub length_then : (texts : List (List ℕ)) (newest bytes : ℕ) → newest ≤ 
 length_then texts newest bytes there =
     omega (arith, length-append (take newest texts) (take bytes (text_of texts newest) ∷ []), length-take newest texts, there)
 
--- the text of a closed generation
-pub text_before : (texts : List (List ℕ)) (newest bytes generation : ℕ) → newest ≤ length texts - 1 → generation < newest → text_of (journal_then texts newest bytes) generation ≡ text_of texts generation
-text_before texts newest bytes generation there before =
-    get_or_append_left (take newest texts) (take bytes (text_of texts newest) ∷ []) [] generation (omega (arith, length-take newest texts, there, before))
-    ∙ get_or-take newest texts generation [] before
-
--- the text of the newest generation
-pub text_newest : (texts : List (List ℕ)) (newest bytes : ℕ) → newest ≤ length texts - 1 → text_of (journal_then texts newest bytes) newest ≡ take bytes (text_of texts newest)
-text_newest texts newest bytes there =
-    let long : length (take newest texts) ≡ newest = omega (arith, length-take newest texts, there) in
-    subst (λ (n : ℕ). get_or (journal_then texts newest bytes) n [] ≡ take bytes (text_of texts newest)) long
-    (get_or-append_seam (take newest texts) (take bytes (text_of texts newest)) [] [])
-
--- the text of a generation that isn't there yet
-pub text_after : (texts : List (List ℕ)) (newest bytes generation : ℕ) → newest ≤ length texts - 1 → newest < generation → text_of (journal_then texts newest bytes) generation ≡ []
-text_after texts newest bytes generation there after =
-    get_or_past (journal_then texts newest bytes) generation [] (omega (arith, length_then texts newest bytes there, after))
-
 concat_one : (text : List ℕ) → length (concat (text ∷ [])) ≡ length text
 concat_one text = omega (arith, length-append text [])
 
@@ -89,8 +70,3 @@ total_last [] newest e = rw e refl
 total_last (text ∷ later) newest e =
     let texts = text ∷ later in
     omega (arith, total_more texts newest (omega (arith, e)), ap (λ (ts : List (List ℕ)). length (concat ts)) (take_all (newest + 1) texts (omega (arith, e))))
-
--- a journal of no texts has as many bytes as none
-pub total_journal : (texts : List (List ℕ)) → length (concat (journal_of texts)) ≡ length (concat texts)
-total_journal [] = refl
-total_journal (text ∷ later) = refl

@@ -24,10 +24,6 @@ pub place_is : (later : List ViewLine) (place : Option (List ℕ)) (path : List 
 place_is later None path rivals e = absurd cc
 place_is later (Some p) path rivals e = cc
 
-pub no_place_is : (later : List ViewLine) (place : Option (List ℕ)) → Nothing ≡ at_path later place → None ≡ place
-no_place_is later None e = refl
-no_place_is later (Some p) e = absurd cc
-
 module _ (d : List Deed) (caller : Caller) (asker : Asker) (is : IsAsker d caller asker) where
   pub named_is : (spec : FileSpec) (path : List ℕ) → is_named asker spec.pattern path ≡ names true d caller spec path
   named_is spec path =

@@ -62,10 +62,3 @@ module _ (d : List Deed) (client path : List ℕ) where
               at : (t : Bool) → (if t then Some other else None) ≡ option_map path_of_opening (when t p)
               at true = ap (λ (x : List ℕ). Some x) (sym (opened-is d client other p f).1)
               at false = refl
-
-  pub no_partner : None ≡ end_named d client path → None ≡ partner_path d client path
-  no_partner is = go (opened d client path) is
-    where
-      go : (found : Option Opening) → None ≡ option_and_then moved_of found → None ≡ option_map path_of_opening (option_and_then (partner d) found)
-      go None k = refl
-      go (Some o) k = ap (λ (x : Option (List ℕ)). option_map path_of_opening (option_and_then (named_back d o.client o.path) x)) k

@@ -30,9 +30,6 @@ use Rattle.opening_reads.proofs.Onwards.{all_but_first}
 
 -- ---- deeds on the files of a client
 
-pub came_no_way : (client : List ℕ) (d : List Deed) → Came client d d
-came_no_way client d = record { deeds = []; those = refl; own = refl }
-
 pub came_on : (client : List ℕ) (d e : List Deed) (deed : Deed) → is_of client deed ≡ true → Came client d e → Came client d (deed ∷ e)
 came_on client d e deed is came = record {
   deeds = deed ∷ came.deeds;

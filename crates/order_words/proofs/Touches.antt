@@ -1,5 +1,5 @@
 -- The last place that touches a lane.
-use Rattle.std.proofs.Common.{◌≡◌, ℕ, zero, suc, ◌+◌, ◌^◌, ◌≤◌, Bool, true, false, List, [], ◌∷◌, ◌++◌, length, Some, slice_get, refl, ap, sym, ◌∙◌, subst, arith, add-one}
+use Rattle.std.proofs.Common.{◌≡◌, ℕ, zero, suc, ◌+◌, ◌^◌, ◌≤◌, Bool, true, false, List, [], ◌∷◌, ◌++◌, length, refl, ap, sym, ◌∙◌, subst, arith, add-one}
 use mathlib.Core.Logic.{dite}
 use mathlib.Core.List.{IsPrefix}
 use native.Mathlib.Decide.{ℕ_discrete}
@@ -28,16 +28,6 @@ behind_suc : (b : Bool) (n : ℕ) → last_with_first b (suc n) ≡ suc (suc n)
 behind_suc true n = refl
 behind_suc false n = refl
 
-behind_some : (b : Bool) (n m : ℕ) → suc m ≤ n → suc (suc m) ≤ last_with_first b n
-behind_some true zero m h = absurd (omega arith)
-behind_some false zero m h = absurd (omega arith)
-behind_some true (suc n) m h = omega arith
-behind_some false (suc n) m h = omega arith
-
-behind_first : (n : ℕ) → 1 ≤ last_with_first true n
-behind_first zero = omega arith
-behind_first (suc n) = omega arith
-
 module _ {E : Type 0} (lanes : E → ℕ) (lane : ℕ) where
   pub last_touch_within : (es : List E) → last_touch lanes lane es ≤ length es
   last_touch_within [] = omega arith
@@ -62,13 +52,6 @@ module _ {E : Type 0} (lanes : E → ℕ) (lane : ℕ) where
   pub last_touch_passed : (es : List E) (e : E) → has_lane (lanes e) lane ≡ false → last_touch lanes lane (es ++ e ∷ []) ≡ last_touch lanes lane es
   last_touch_passed [] e is = ap (λ (b : Bool). last_with_first b 0) is
   last_touch_passed (x ∷ xs) e is = ap (last_with_first (has_lane (lanes x) lane)) (last_touch_passed xs e is)
-
-  -- the last touching place is no earlier than one that touches
-  pub last_touch_at : (es : List E) (k : ℕ) (e : E) → slice_get es k ≡ Some e → has_lane (lanes e) lane ≡ true → suc k ≤ last_touch lanes lane es
-  last_touch_at [] k e at is = absurd cc
-  last_touch_at (x ∷ xs) zero e at is = let same : x ≡ e = cc (at) in
-      subst (λ (b : Bool). 1 ≤ last_with_first b (last_touch lanes lane xs)) (sym (ap (λ (y : E). has_lane (lanes y) lane) same ∙ is)) (behind_first (last_touch lanes lane xs))
-  last_touch_at (x ∷ xs) (suc k) e at is = behind_some (has_lane (lanes x) lane) (last_touch lanes lane xs) k (last_touch_at xs k e at is)
 
 -- a power of two has one lane
 pub only_lane : (k lane : ℕ) → has_lane (2 ^ k) lane ≡ true → lane ≡ k

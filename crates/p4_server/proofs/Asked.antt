@@ -21,7 +21,7 @@ use Rattle.p4_server.specs.Runs.{RunsParties, IsClosed, IsShut, IsRun}
 use Rattle.p4_server.specs.Serve.{AnyOrder}
 use Rattle.p4_server.specs.Telling.{IsTold, IsToldAlone}
 use Rattle.program_words.specs.declared.mode.Mode.{Mode}
-use Rattle.program_words.specs.Words.{HasParties, Job, asked, job_of, init, dump, checkpoint, load, schedule, serve}
+use Rattle.program_words.specs.Words.{Job, asked, job_of, init, dump, checkpoint, load, schedule, serve}
 
 abbrev is_usage : Cause → Bool
 is_usage causes.Usage = true
@@ -182,6 +182,3 @@ asks_for words found mode is asks = let P : Option Mode → Type 0 = λ o. IfSom
 
 pub asks_none : (words : List (List ℕ)) (found : Option Mode) → found ≡ None → IfNone found (asked words ≡ None) → asked words ≡ None
 asks_none words found is asks = let P : Option Mode → Type 0 = λ o. IfNone o (asked words ≡ None) in subst P is asks
-
-pub has_parties : (found : Option Mode) (mode : Mode) → found ≡ Some mode → IfSome found HasParties → HasParties mode
-has_parties found mode is has = let P : Option Mode → Type 0 = λ o. IfSome o HasParties in subst P is has

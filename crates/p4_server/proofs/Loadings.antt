@@ -130,9 +130,6 @@ module _ {D S K : Type 0} (disk_says : DiskSays D) (sink_says : SinkSays K) (may
   abbrev pub Promised : Type 0
   Promised = LoadsFiles disk_says sink_says may_give before after seed count
 
-  abbrev Rose : Type 0
-  Rose = DiskOrOutRose disk_says sink_says before after
-
   abbrev pub Ran : Type 0
   Ran = IsLoadRun disk_says sink_says may_give before after seed count
 

@@ -16,9 +16,6 @@ use Rattle.session_loop.specs.Served.{IsOutput}
 
 -- ---- entries of one party
 
-keep : Bool → Taken → List Taken → List Taken
-keep own entry entries = cond own (entry ∷ entries) entries
-
 pub of_party-append : (party : ℕ) (xs ys : List Taken) → of_party party (xs ++ ys) ≡ of_party party xs ++ of_party party ys
 of_party-append party [] ys = refl
 of_party-append party (x ∷ xs) ys = go (eqb x.request.party party) (of_party-append party xs ys)

@@ -47,16 +47,6 @@ common_here : (b : Bool) (x y : ℕ) (n : ℕ) → eqb x y ≡ b → (cond b (su
 common_here true x y n e = inr (eqb-true x y e, refl)
 common_here false x y n e = inl refl
 
-common_least : (text bytes : List ℕ) → (common text bytes ≤ length text) × (common text bytes ≤ length bytes)
-common_least [] bytes = (omega arith, omega arith)
-common_least (x ∷ text) [] = (omega arith, omega arith)
-common_least (x ∷ text) (y ∷ bytes) =
-    let ih = common_least text bytes in
-    elim (common_here (eqb x y) x y (common text bytes) refl) [
-      | inl z ↦ (omega arith, omega arith)
-      | inr s ↦ (let one : common (x ∷ text) (y ∷ bytes) ≡ suc (common text bytes) = s.1 in (omega arith, omega arith))
-    ]
-
 common_take : (text bytes : List ℕ) → take (common text bytes) text ≡ take (common text bytes) bytes
 common_take [] bytes = refl
 common_take (x ∷ text) [] = refl

@@ -1,5 +1,5 @@
 -- The groups at the front of a text, and the text behind them.
-use Rattle.std.proofs.Common.{◌≡◌, ◌≢◌, inl, inr, ℕ, suc, ◌+◌, ◌<◌, ◌^◌, List, [], ◌∷◌, ◌++◌, length, Option, Some, refl, sym, ◌∙◌, ap, subst, arith, append_assoc}
+use Rattle.std.proofs.Common.{◌≡◌, inl, inr, ℕ, suc, ◌+◌, ◌<◌, ◌^◌, List, [], ◌∷◌, ◌++◌, length, Option, Some, refl, sym, ◌∙◌, ap, subst, arith, append_assoc}
 use Rattle.std.specs.List.{AllByRecursion}
 use Rattle.depot_rows.specs.db_records.declared.change.Change.{Change}
 use Rattle.record_text.specs.Reading.{Done, Ends}
@@ -59,10 +59,6 @@ pub unreadable_never : (number at : ℕ) (text : List ℕ) (place : ℕ) → num
 unreadable_never number at text place small (inl stops) wanted =
     (stops.none stops.after).1 (subst (BeginsWanted number) (stops.parts ∙ sym (append_assoc stops.front (stops.bad ∷ []) stops.after)) wanted)
 unreadable_never number at text place small (inr ends) wanted = ends_never number text wanted (goes_next number text small ends.0)
-
--- the groups of a text end at its first mark that isn't open
-pub ended_groups : (number byte : ℕ) (left behind : List ℕ) (text : List ℕ) (done : List (List Change)) → AllByRecursion IsGroup done → text ≡ groups_text number done ++ left → byte ≢ open_byte → left ≡ mark byte ++ behind → HasGroups number text done
-ended_groups number byte left behind text done are is shut left_is = record { byte = byte; after = behind; closed = shut; are_groups = are; parts = is ∙ ap (λ (l : List ℕ). groups_text number done ++ l) left_is }
 
 -- ---- a checkpoint, which is one group
 

@@ -35,17 +35,6 @@ passed_unmade Y {X} (Err y) fault is unmade = subst (λ (f : OpenFault). IsUnmad
     go DiskFault has = has
     go Memory has = has
 
--- a fault that says nothing tells of no damage
-pub nothing_damaged : {X : Type 0} (r : Result X OpenFault) (fault : OpenFault) (P : ℕ → Type 0) → IsErrAnd r (λ y. y ≡ fault) → SaysNothing fault → IfDamaged r P
-nothing_damaged (Ok x) fault P is says = tt
-nothing_damaged {X} (Err y) fault P is says = subst (λ (f : OpenFault). IfDamaged {X = X} (Err f) P) (sym is) (go fault says)
-  where
-    go : (f : OpenFault) → SaysNothing f → IfDamaged {X = X} (Err f) P
-    go Unmade says = tt
-    go (Damaged disk file place) says = absurd says
-    go DiskFault says = tt
-    go Memory says = tt
-
 -- of the fault of a disk nothing is said that is said of others
 pub no_fault_but : {X : Type 0} (r : Result X OpenFault) (P : Type 0) → IsErrAnd r (λ y. y ≡ DiskFault) → IfErr r (λ fault. fault ≢ DiskFault → P)
 no_fault_but (Ok x) P is = tt

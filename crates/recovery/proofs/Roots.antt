@@ -1,5 +1,5 @@
 -- The bytes of a root, by what stands at each place.
-use Rattle.std.proofs.Common.{◌≡◌, ◌≢◌, inl, inr, ℕ, zero, suc, ◌+◌, ◌<◌, ◌≤◌, List, [], ◌∷◌, ◌++◌, length, replicate, get_or, drop, refl, sym, ◌∙◌, ap, subst, arith, length-append, length-drop}
+use Rattle.std.proofs.Common.{◌≡◌, ◌≢◌, inl, inr, ℕ, zero, suc, ◌+◌, ◌<◌, ◌≤◌, List, [], ◌∷◌, ◌++◌, length, replicate, get_or, drop, refl, sym, ◌∙◌, ap, subst, arith, length-append}
 use Rattle.std.proofs.lemmas.List.{length-replicate}
 use Rattle.std.proofs.lemmas.Bool.{cases_lt}
 use Rattle.disk_journal.specs.Images.{IsTail, IsRoot}
@@ -49,9 +49,6 @@ closed_all rest count within next is = elim (cases_lt count (length rest)) [
 
 -- a root has one generation: the number of its leading open bytes
 module _ (root : List ℕ) (count : ℕ) (within : count ≤ length root) (before : (k : ℕ) → k < count → get_or root k 0 ≡ 101) (next : count < length root → get_or root count 0 ≢ 101) where
-  pub shut_behind : 0 < length (drop count root) → get_or (drop count root) 0 0 ≢ 101
-  shut_behind some is_open = next (omega (arith, some, length-drop count root)) (
-      ap (λ (l : List ℕ). get_or l count 0) (front_same count 101 root within before) ∙ behind_front count 101 (drop count root) ∙ is_open)
 
   pub one_generation : (generation : ℕ) → IsRoot generation root → count ≡ generation
   one_generation generation is = elim (cases_lt count generation) [
@@ -72,8 +69,3 @@ module _ (root : List ℕ) (count : ℕ) (within : count ≤ length root) (befor
 
   pub root_of : IsTail (drop count root) → length root ≡ 4095 → IsRoot count root
   root_of shut long = record { tail = drop count root; is = front_same count 101 root within before; shut = shut; long = long }
-
--- a byte that isn't open, and closed ones
-pub tail_of_count : (tail : List ℕ) (count : ℕ) → (0 < length tail → get_or tail 0 0 ≢ 101) → 1 + count ≡ length tail → ((k : ℕ) → k < count → get_or (drop 1 tail) k 0 ≡ 109) → IsTail tail
-tail_of_count [] count shut long closed = absurd (omega (arith, long))
-tail_of_count (byte ∷ rest) count shut long closed = (shut (omega arith), all_closed rest count (omega (arith, long)) closed)

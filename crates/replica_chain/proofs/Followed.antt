@@ -20,7 +20,7 @@ use Rattle.replica_pull.proofs.Moves.{fits_on}
 use Rattle.replica_chain.specs.Chronicle.{Chronicle, texts_of}
 use Rattle.replica_chain.specs.Masters.{GoesOnBehind, IsBehind, Upstream}
 use Rattle.replica_chain.specs.Node.{IsNode}
-use Rattle.replica_chain.specs.Pulling.{HasFollowed, HasMoved, HasStopped, HasTakenGroups, IsFetched, IsStopped, IsStoppedBy, IsUnpassed, IsUnread, IsUntaken, IsWhereItWas}
+use Rattle.replica_chain.specs.Pulling.{HasFollowed, HasMoved, HasStopped, HasTakenGroups, IsFetched, IsStopped, IsStoppedBy, IsUnpassed, IsUnread, IsWhereItWas}
 use Rattle.replica_chain.specs.declared.fault.NodeFault.{NodeFault}
 use Rattle.replica_chain.specs.declared.fault.NodeFault.TheVariants.{LinkFault, ContentsFailed, DiskFault, BadFeed, BadContent, NoBytes, NoGeneration, Memory}
 use Rattle.replica_chain.specs.declared.link.NodeLink.{NodeLink}
@@ -243,13 +243,3 @@ module _ {D : Type 0} (old new : Node D) (rest : List ℕ) where
     pub stopped_rested : (fault : NodeFault) → IsUnread old new fault ⊎ HasStopped disk_says link_says told link old new fault → IsUnread old (with_rest new rest) fault ⊎ HasStopped disk_says link_says told link old (with_rest new rest) fault
     stopped_rested fault (inl unread) = inl (unread_rested fault unread)
     stopped_rested fault (inr s) = inr (record { fetched = s.fetched; buffer = s.buffer; is_fetched = s.is_fetched; is_stopped = stops_rested s.fetched s.buffer fault s.is_stopped })
-
--- ---- faults that don't come
-
-module _ {D : Type 0} (disk_says : DiskSays D) (told : List ℕ → Type 0) (old new : Node D) where
-  pub no_link : (piece : List ℕ) → IsUntaken disk_says told old new piece LinkFault → ⊥
-  no_link piece (inl cut) = cut.why
-  no_link piece (inr much) = never (much.fault_is)
-    where
-      never : {place : ℕ} → LinkFault ≡ BadFeed place → ⊥
-      never e = cc

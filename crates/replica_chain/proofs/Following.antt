@@ -27,9 +27,6 @@ last_same (f ∷ front) (o ∷ other) x y long is =
     let rest = last_same front other x y (omega (arith, long)) tail in
     ((λ i. head i ∷ rest.0 i), rest.1)
 
-length_take_le : (n : ℕ) (xs : List (List ℕ)) → n ≤ length xs - 1 → 0 < length xs → length (take n xs) ≡ n
-length_take_le n xs le some = omega (arith, length-take n xs, le, some)
-
 -- what a journal with changes that is earlier is: the generations before are the same, and so is the newest up to its length
 pub record IsFrontOf (c : Chronicle) (texts : List (List ℕ)) : Type 0 where
   pub closed : map (groups_text 1) c.closed ≡ take (length c.closed) texts

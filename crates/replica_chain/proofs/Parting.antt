@@ -2,7 +2,7 @@
 use Rattle.std.proofs.Common.{◌≡◌, ◌≢◌, ◌⊎◌, inl, inr, ⊎_elim, ℕ, zero, suc, ◌+◌, ◌*◌, ◌^◌, ◌≤◌, ◌<◌, List, [], ◌∷◌, ◌++◌, length, get_or, take, drop, below_more, refl, sym, ap, subst, ◌∙◌, arith, length-append, length-drop, length-take-le}
 use Rattle.std.specs.Prelude.{map}
 use Rattle.std.proofs.Math.Seq.{take-add}
-use Rattle.std.proofs.lemmas.List.{drop_all, drop_more, get_or-drop, get_or-take, length-map, take-take}
+use Rattle.std.proofs.lemmas.List.{drop_more, get_or-drop, get_or-take, length-map, take-take}
 use Rattle.outside_api.specs.Disk.{Files}
 use Rattle.outside_api.specs.Link.{Answers, text_of}
 use Rattle.outside_api.specs.Says.{DiskSays}
@@ -19,14 +19,6 @@ use Rattle.replica_chain.proofs.Told.{image_text, kept_texts}
 use Rattle.replica_chain.specs.Apart.{AreAlike, AreSameTo, IsApartIn, IsClosedIn, IsCommon}
 
 -- ---- bytes
-
--- a byte that is there isn't nothing
-there_not_behind : (text other : List ℕ) (place : ℕ) → place < length text → length other ≤ place → take 1 (drop place text) ≢ take 1 (drop place other)
-there_not_behind text other place lt le same =
-    never (get_or text place 0) (ap (take 1) (sym (drop_more text place 0 lt)) ∙ same ∙ ap (take 1) (drop_all place other le))
-  where
-    never : (byte : ℕ) → byte ∷ [] ≡ (let l : List ℕ = [] in l) → ⊥
-    never byte e = cc
 
 -- nor is it another one
 other_byte : (text other : List ℕ) (place : ℕ) → place < length text → place < length other → get_or text place 0 ≢ get_or other place 0 → take 1 (drop place text) ≢ take 1 (drop place other)
@@ -74,32 +66,6 @@ module _ (node up : List (List ℕ)) (generation at : ℕ) (so_far : AreSameTo n
 
   pub closed_alike : (buffer more : List ℕ) → Answers node generation at Next buffer → Answers up generation at Next more → AreAlike node up generation
   closed_alike buffer more ends others = alike ends.0 (λ closed. (others.0, others.1))
-
-  -- ---- texts that depart here
-
-  pub node_ends : (buffer more : List ℕ) (n : ℕ) → Answers node generation at Next buffer → Answers up generation at (Bytes n) more → IsApartIn node up generation at
-  node_ends buffer more n ends goes = record {
-    alike = so_far;
-    departs = inr (let within = so_far.within_node in omega (arith, within, ends.0), ends.1, inl (let far = there (text_of up generation) at n so_far.within_up goes.1 in omega (arith, far, goes.0)));
-  }
-
-  pub node_closed : (buffer more : List ℕ) → Answers node generation at Next buffer → Answers up generation at End more → IsApartIn node up generation at
-  node_closed buffer more ends others = record {
-    alike = so_far;
-    departs = inr (let within = so_far.within_node in omega (arith, within, ends.0), ends.1, inr (λ closed. omega (arith, closed, others.1)));
-  }
-
-  goes_past : (buffer : List ℕ) (n : ℕ) → Answers node generation at (Bytes n) buffer → length (text_of up generation) ≤ at → IsApartIn node up generation at
-  goes_past buffer n goes ends =
-      let far = there (text_of node generation) at n so_far.within_node goes.1 in
-      let lt : at < length (text_of node generation) = omega (arith, far, goes.0) in
-      record { alike = so_far; departs = inl (lt, there_not_behind (text_of node generation) (text_of up generation) at lt ends) }
-
-  pub up_ends : (buffer more : List ℕ) (n : ℕ) → Answers node generation at (Bytes n) buffer → Answers up generation at End more → IsApartIn node up generation at
-  up_ends buffer more n goes ends = goes_past buffer n goes ends.0
-
-  pub up_closed : (buffer more : List ℕ) (n : ℕ) → Answers node generation at (Bytes n) buffer → Answers up generation at Next more → IsApartIn node up generation at
-  up_closed buffer more n goes ends = goes_past buffer n goes ends.0
 
   -- ---- pieces of both
 

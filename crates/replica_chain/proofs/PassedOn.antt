@@ -2,7 +2,7 @@
 use Rattle.std.proofs.Common.{◌≡◌, ◌⊎◌, inl, inr, ℕ, Result, Ok, Err, OnErr, sym, subst}
 use Rattle.std.specs.Result.{IfErr, IsErrAnd}
 use Rattle.outside_api.specs.Disk.{Files}
-use Rattle.replica_chain.specs.Copying.{AtBadContent, AtNoBytes, IsOfBringing, IsOfContents, IsOfCopying}
+use Rattle.replica_chain.specs.Copying.{AtBadContent, AtNoBytes, IsOfContents, IsOfCopying}
 use Rattle.replica_chain.specs.Feed.{IfBadFeed}
 use Rattle.replica_chain.specs.declared.fault.NodeFault.{NodeFault}
 use Rattle.replica_chain.specs.declared.fault.NodeFault.TheVariants.{LinkFault, ContentsFailed, DiskFault, BadFeed, BadContent, NoBytes, NoGeneration, Memory}
@@ -44,27 +44,6 @@ no_bytes_told P _ of = tt
 pub no_digest_told : (P : ℕ → Type 0) (fault : NodeFault) → IsOfCopying fault → AtBadContent P fault
 no_digest_told P (BadContent place) of = absurd of
 no_digest_told P _ of = tt
-
--- both bring contents
-pub checking_brings : (fault : NodeFault) → IsOfContents fault → IsOfBringing fault
-checking_brings (BadContent place) of = tt
-checking_brings DiskFault of = tt
-checking_brings Memory of = tt
-checking_brings LinkFault of = of
-checking_brings ContentsFailed of = tt
-checking_brings (BadFeed place) of = of
-checking_brings (NoBytes place) of = tt
-checking_brings NoGeneration of = of
-
-pub copying_brings : (fault : NodeFault) → IsOfCopying fault → IsOfBringing fault
-copying_brings ContentsFailed of = tt
-copying_brings (NoBytes place) of = tt
-copying_brings DiskFault of = tt
-copying_brings Memory of = tt
-copying_brings LinkFault of = of
-copying_brings (BadFeed place) of = of
-copying_brings (BadContent place) of = tt
-copying_brings NoGeneration of = of
 
 -- what is told of files is told of each of them
 pub content_each : (S : Files → Type 0) (Q : Files → ℕ → Type 0) (fault : NodeFault) → ((files : Files) → S files → AtBadContent (Q files) fault) → AtBadContent (λ place. (files : Files) → S files → Q files place) fault

@@ -60,10 +60,6 @@ module _ (old new : State) (before after : AllRows) (groups : List (List Change)
   pub many_taken : 5 * length groups + length new.left ≤ length old.left
   many_taken = omega (arith, many old.number groups, ap length taken.text, length-append (groups_text old.number groups) new.left)
 
-  -- behind the groups stands what is left
-  pub front_taken : length (groups_text old.number groups) + length new.left ≡ length old.left
-  front_taken = omega (arith, ap length taken.text, length-append (groups_text old.number groups) new.left)
-
 module _ {D : Type 0} where
   -- a node that has taken none
   pub no_group : (node : Node D) (feed : State) → feed.at ≡ node.at → feed.number ≡ node.number → HasTakenGroups node node feed [] feed

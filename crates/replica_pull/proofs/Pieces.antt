@@ -20,9 +20,6 @@ module _ (rules : List FilterRule) (old new : State) (before after : AllRows) (g
       let count : length old.left - length new.left ≡ length front = omega (arith, ap length taken.text, length-append front new.left) in
       ap (λ (n : ℕ). drop n old.left) count ∙ ap (drop (length front)) taken.text ∙ drop-append_seam front new.left
 
-  pub left_within : length new.left ≤ length old.left
-  left_within = omega (arith, ap length taken.text, length-append (groups_text old.number groups) new.left)
-
   -- each group has its mark
   pub many_taken : 5 * length groups + length new.left ≤ length old.left
   many_taken = omega (arith, many old.number groups, ap length taken.text, length-append (groups_text old.number groups) new.left)

@@ -1,8 +1,7 @@
 -- The seats of lanes that were made one after another, taken from the last on.
 use Rattle.std.proofs.Common.{◌≡◌, ◌-◌, ◌≤◌, ℕ, suc, List, [], ◌∷◌, ◌++◌, refl, sym, ap, ◌∙◌, arith, lit<}
 use Rattle.std.proofs.lemmas.List.{append_assoc}
-use Rattle.std.specs.List.{AllByRecursion}
-use Rattle.locked_tables.specs.Known.{IsSeatOfTable, PartyKnown}
+use Rattle.locked_tables.specs.Known.{PartyKnown}
 use Rattle.order_words.specs.Seats.{LaneState, Run, fresh_lane, fresh_lanes}
 use Rattle.party_marks.specs.Known.{PassKnown}
 use Rattle.shared_depot.specs.Sharing.{fresh_marks, fresh_passes}
@@ -32,22 +31,6 @@ last_mark olds news pass count some popped is =
     let next : count ≡ suc (count - 1) = omega arith in
     let ends = same_ends news (fresh_marks (count - 1)) pass (record { party = suc (count - 1); list = [] }) (sym popped ∙ (is ∙ ap fresh_marks next)) in
     (ends.0, ends.1 ∙ ap (λ (n : ℕ). let p : PassKnown = record { party = n; list = [] } in p) (sym next))
-
--- the first eleven are those of the tables
-pub table_seats : (run : Run) → AllByRecursion (IsSeatOfTable run) (fresh_lanes run 11)
-table_seats run = (
-  (lit< tt, refl),
-  (
-    (lit< tt, refl),
-    (
-      (lit< tt, refl),
-      (
-        (lit< tt, refl),
-        ((lit< tt, refl), ((lit< tt, refl), ((lit< tt, refl), ((lit< tt, refl), ((lit< tt, refl), ((lit< tt, refl), ((lit< tt, refl), tt))))))),
-      ),
-    ),
-  ),
-)
 
 -- one party more
 pub passes_more : (before after : List PartyKnown) (count : ℕ) → 1 ≤ count → after ≡ before ++ fresh_passes (count - 1) → after ++ record { party = count; list = [] } ∷ [] ≡ before ++ fresh_passes count

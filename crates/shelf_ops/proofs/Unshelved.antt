@@ -1,5 +1,5 @@
 -- Files that are opened as they were kept in a change, by their forms and what was found of them, are opened as the model opens them.
-use Rattle.std.proofs.Common.{◌≡◌, ◌≤◌, ℕ, Bool, true, false, List, [], ◌∷◌, ◌++◌, Option, Some, None, Result, Ok, Err, inl, inr, refl, sym, ap, subst, ◌∙◌, length, arith, append_assoc}
+use Rattle.std.proofs.Common.{◌≡◌, ◌≤◌, ℕ, Bool, true, false, List, [], ◌∷◌, Option, Some, None, Result, Ok, Err, inl, inr, refl, sym, ap, subst, ◌∙◌, length, arith}
 use Rattle.std.specs.Prelude.{codes, if◌then◌else◌, nat_lt, option_and_then, option_map, unwrap_or}
 use Rattle.std.proofs.lemmas.Bool.Decides.{nat_tests}
 use Rattle.depot_rows.specs.depot_path.Bytes.{same}
@@ -10,7 +10,6 @@ use Rattle.depot_rows.specs.spec_form.Form.{FormValue, lines_of}
 use Rattle.depot_rows.specs.spec_form.Printing.{printed_form}
 use Rattle.depot_rows.specs.spec_form.declared.shape.Shape.TheVariants.{Shelf as ShelfShape}
 use Rattle.depot_rows.specs.table_changes.Changed.{AllRows}
-use Rattle.depot_rows.specs.depot_model.declared.reply.Field.{Field}
 use Rattle.depot_rows.specs.depot_model.declared.request.Caller.{Caller}
 use Rattle.depot_rows.specs.depot_model.Deeds.{Add, Deed, Delete, Edit, ShelfForm}
 use Rattle.depot_rows.specs.depot_model.Latest.{spec, when}
@@ -116,10 +115,6 @@ source_is form = go (path_of (value_of form (codes "From")))
         ≡ source_in_form form (elim r as (λ _. List (List ℕ)) [ Err fault ↦ [] | Ok path ↦ path ∷ [] ])
     go (Err fault) = refl
     go (Ok path) = refl
-
--- two fields one after another
-pub two_pushed : (f f1 f2 : List Field) (a b : Field) → f1 ≡ f ++ a ∷ [] → f2 ≡ f1 ++ b ∷ [] → f2 ≡ f ++ a ∷ b ∷ []
-two_pushed f f1 f2 a b e1 e2 = e2 ∙ ap (λ (l : List Field). l ++ b ∷ []) e1 ∙ append_assoc f (a ∷ []) (b ∷ [])
 
 -- ---- the step that opens it
 

@@ -1,6 +1,6 @@
 -- What is known of a sound depot: its openings, have lists and labels.
 use Rattle.std.proofs.Common.{◌≡◌, ◌≤◌, ℕ, zero, suc, Bool, true, false, List, [], ◌∷◌, length, Option, Some, None, Ok, inl, inr, refl, sym, ap, subst, ◌∙◌, arith}
-use Rattle.std.specs.Prelude.{◌&&◌, ◌==◌, codes, IfSome, IsSome, IsSomeAnd, IsTrue, is_some, slice_get, option_map, if◌then◌else◌}
+use Rattle.std.specs.Prelude.{◌&&◌, ◌==◌, codes, IfSome, IsSomeAnd, IsTrue, is_some, slice_get, option_map, if◌then◌else◌}
 use Rattle.std.specs.List.{list_all}
 use Rattle.std.specs.Option.{option_or, option_flatten, option_map_or}
 use Rattle.std.proofs.lemmas.Option.{slice_get_within}
@@ -13,7 +13,7 @@ use Rattle.depot_rows.specs.db_records.declared.record.Record.{Record}
 use Rattle.depot_rows.specs.spec_form.Form.{FormValue}
 use Rattle.depot_rows.specs.spec_form.Printing.{printed_form}
 use Rattle.depot_rows.specs.depot_model.Asking.{is_client, is_label}
-use Rattle.depot_rows.specs.depot_model.Deeds.{Deed, Open, Shut, Opening, Source, Action, Add, Edit, Delete, Branch, Integrate, MoveAdd, MoveDelete, ClientForm, LabelForm, JobForm, Pending, Landing}
+use Rattle.depot_rows.specs.depot_model.Deeds.{Deed, Open, Shut, Opening, Source, Action, Add, Edit, Delete, Branch, Integrate, MoveAdd, MoveDelete, ClientForm, LabelForm, Pending, Landing}
 use Rattle.depot_rows.specs.depot_model.Latest.{latest, when, spec, have, labelled, is_held}
 use Rattle.depot_rows.specs.depot_model.Numbers.{pending, landing}
 use Rattle.depot_rows.specs.depot_model.Opened.{opened, opening_said}
@@ -81,9 +81,6 @@ module _ (d : List Deed) where
 
   pub label_known : (name : List ℕ) → IsLabel (record_of d) name → is_label d name ≡ true
   label_known name h = saved_known _ (spec d LabelForm name) h
-
-  pub job_known : (name : List ℕ) → IsSome (record_of d (keys.Domain (codes "job") name)) → IsSome (spec d JobForm name)
-  job_known name h = saved_known _ (spec d JobForm name) h
 
   source_known : (source : Option Source) → IfSome source (λ s. is_path s.path ≡ true)
       → IsSource (record_of d) (elim source [ None ↦ [] | Some s ↦ printed s.path ]) (elim source [ None ↦ 0 | Some s ↦ s.rev ]) → IfSome source (IsTaken d)

@@ -1,5 +1,5 @@
 -- The deeds of the steps that number changes are plain.
-use Rattle.std.proofs.Common.{◌≡◌, ◌≤◌, ◌+◌, ℕ, zero, suc, Bool, true, false, List, [], ◌∷◌, ◌++◌, length, Option, Some, None, Result, Ok, Err, refl, arith}
+use Rattle.std.proofs.Common.{◌≡◌, ◌≤◌, ◌+◌, ℕ, Bool, true, false, List, [], ◌∷◌, ◌++◌, length, Option, Some, None, Result, Ok, Err, refl, arith}
 use Rattle.std.specs.Prelude.{◌==◌, ◌&&◌, ◌||◌, not, nat_lt, map, filter_map, flat_map, option_map, option_and_then, unwrap_or, codes, if◌then◌else◌}
 use Rattle.std.specs.List.{cons_option}
 use Rattle.std.specs.Option.{option_map_or}
@@ -9,19 +9,16 @@ use Rattle.depot_model.specs.spec_form.Places.{field_place}
 use Rattle.depot_model.specs.spec_form.Reading.{form_of}
 use Rattle.depot_model.specs.spec_form.declared.fault.FormFault.{FormFault}
 use Rattle.depot_model.specs.spec_form.declared.shape.Shape.TheVariants.{Change as ChangeShape}
-use Rattle.depot_model.specs.db_records.declared.key.Key.TheVariants as keys
-use Rattle.depot_model.specs.db_records.declared.record.Record.{Record}
 use Rattle.depot_model.specs.Deeds.{Deed, Opening, Pending, Open, Drop, Spec, JobForm}
 use Rattle.depot_model.specs.Fixes.{closing, closed, closes, fixed_job, fixes_of, job, renumbers_where}
-use Rattle.depot_model.specs.Numbers.{pending, landing, top}
+use Rattle.depot_model.specs.Numbers.{pending, top}
 use Rattle.depot_model.specs.Opened.{opened}
-use Rattle.depot_model.specs.Records.{record_of, pending_record, landed_record}
 use Rattle.depot_model.specs.Step.{Step, refuses, refuse_if, unless}
 use Rattle.depot_model.specs.Steps.Changing as changing
-use Rattle.depot_model.specs.Steps.Opening.{change_refusal, is_of}
+use Rattle.depot_model.specs.Steps.Opening.{change_refusal}
 use Rattle.depot_model.specs.Steps.Submitting as submitting
 use Rattle.depot_model.specs.declared.refusal.Refusal.{Refusal}
-use Rattle.depot_model.specs.declared.refusal.Refusal.TheVariants.{BadForm, OverLimit, NoSuchChange, NotYours, EmptyChange}
+use Rattle.depot_model.specs.declared.refusal.Refusal.TheVariants.{BadForm, OverLimit, EmptyChange}
 use Rattle.depot_model.specs.declared.refusal.Limit.TheVariants.{Text, Change, Files}
 use Rattle.depot_model.specs.declared.request.Caller.{Caller}
 use Rattle.depot_model.specs.declared.request.Request.{Request}
@@ -158,16 +155,3 @@ module _ (least : ℕ) (small : least ≤ 1) where
           go : (r : Result FormValue FormFault) → ArePlain least (elim r as (λ _. Step) [ Err fault ↦ refuses (BadForm fault.line) | Ok form ↦ changing.change_form d request input form ]).deeds
           go (Err fault) = tt
           go (Ok form) = form_plain input form
-
-    pub change_delete_plain : (caller : Caller) (n : ℕ) → ArePlain least (changing.change_delete d caller n).deeds
-    change_delete_plain caller n = unless_plain (changing.delete_refusals d caller n) _ (λ none. (tt, tt))
-
--- where no change is 0, one that is pending has a greater number
-pub named_positive : (d : List Deed) (caller : Caller) → record_of d (keys.Change 0) ≡ None → (n : ℕ) → change_refusal d caller n ≡ None → 1 ≤ n
-named_positive d caller free (suc n) none = omega arith
-named_positive d caller free zero none = go (pending d 0) free none
-  where
-    go : (p : Option Pending) → (elim p as (λ _. Option Record) [ Some q ↦ Some (pending_record q) | None ↦ option_map landed_record (landing d 0) ]) ≡ None
-        → (elim p as (λ _. Option Refusal) [ None ↦ Some (NoSuchChange 0) | Some q ↦ refuse_if (not (is_of caller q)) (NotYours 0) ]) ≡ None → 1 ≤ 0
-    go None e k = absurd cc
-    go (Some p) e k = absurd cc

@@ -13,10 +13,6 @@ first_on [] ys = refl
 first_on (None ∷ xs) ys = first_on xs ys
 first_on (Some why ∷ xs) ys = refl
 
-pub first_more : (x : Option Refusal) (xs : List (Option Refusal)) → first_of (x ∷ xs) ≡ option_or x (first_of xs)
-first_more None xs = refl
-first_more (Some why) xs = refl
-
 -- the row of a refusal that is there, of one of two
 pub row_first : (row : Option Row) (x y : Option Refusal) → is_some row ≡ true → row ≡ option_map refusal_row x → row ≡ option_map refusal_row (option_or x y)
 row_first None x y some e = absurd (let no : false ≡ true = some in cc)

@@ -56,9 +56,6 @@ false_is_not_true e = cc
 abbrev number : TableRows → ℕ
 number draft = table_number draft.table
 
-no_draft : TableRows
-no_draft = record { table = Counter; rows = [] }
-
 abbrev pub rows_at : List TableRows → AllRows
 rows_at drafts table = (draft_at drafts table).rows
 
@@ -165,23 +162,6 @@ module _ (drafts : List TableRows) (in_order : numbers_of drafts ≡ all_numbers
 
 pub same_versions : (old new : Tables) → ((table : TableId) → version_of new table ≡ version_of old table) → rows_of new ≡ rows_of old
 same_versions old new same = fun_ext (λ table. ap (λ (v : TableRows). v.rows) (same table))
-
--- the versions of all tables, in order, are the rows of each
-pub versions_rows : (tables : Tables) (drafts : List TableRows) → drafts ≡ map (version_of tables) all_tables → rows_at drafts ≡ rows_of tables
-versions_rows tables drafts is = ap rows_at is ∙ fun_ext each
-  where
-    each : (table : TableId) → rows_at (map (version_of tables) all_tables) table ≡ rows_of tables table
-    each Counter = refl
-    each Group = refl
-    each Protect = refl
-    each Domain = refl
-    each Have = refl
-    each Label = refl
-    each Integed = refl
-    each Resolve = refl
-    each Working = refl
-    each ChangeTable = refl
-    each Rev = refl
 
 -- one more draft
 pub drafts_more : (version : TableId → TableRows) (drafts : List TableRows) (i : ℕ) (draft : TableRows) → i < length all_tables → drafts ≡ map version (take i all_tables) → draft ≡ version (get_or all_tables i Counter) → drafts ++ draft ∷ [] ≡ map version (take (i + 1) all_tables)

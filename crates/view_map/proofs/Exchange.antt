@@ -81,9 +81,6 @@ stands_alone (k ∷ ks) ls ms h g =
 
 -- ---- the texts that labels have
 
-abbrev OneEach : List Label → Type 0
-OneEach ls = AllOnce ls ls
-
 text_first : (l : Label) (ls : List Label) (t : List ℕ) (ts : Texts) (m : Label) → same_label l m ≡ true → text_for (l ∷ ls) (t ∷ ts) m ≡ t
 text_first l ls t ts m e = rw e refl
 

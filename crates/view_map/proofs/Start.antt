@@ -5,7 +5,7 @@ use Rattle.std.specs.List.{list_any, list_all}
 use Rattle.std.specs.Cmp.Lexicographic.{pointwise, same_text}
 use Rattle.std.proofs.lemmas.Cmp.{nat_list_eq_equiv}
 use Rattle.std.proofs.lemmas.Grind.{flat_map-append}
-use Rattle.std.proofs.lemmas.List.{append-nil, take-append-drop, drop_at}
+use Rattle.std.proofs.lemmas.List.{append-nil, take-append-drop}
 use Rattle.std.proofs.Math.Seq.{take-append_seam}
 use Rattle.std.proofs.lemmas.Bool.{and_parts, or_left, or_right}
 use Rattle.depot_path.specs.Bytes.{begins_with}
@@ -189,9 +189,6 @@ carries depot client start file path s r t e f =
     ∙ ap (λ (u : List ℕ). front depot ++ u) (printed_joined t.text t.rest ∙ ap (λ (u : List ℕ). u ++ printed t.rest) b ∙ append_assoc s r (printed t.rest))
     ∙ sym (append_assoc (front depot) s (r ++ printed t.rest)) in
     ap (λ u. begins_with u (front depot ++ s)) c ∙ begins_itself (front depot ++ s) (r ++ printed t.rest)
-
-after_front : (a s start : List ℕ) → start ≡ a ++ s → drop (length a) start ≡ s
-after_front a s start e = ap (λ (u : List ℕ). drop (length a) u) e ∙ drop_at a s (length a) refl
 
 false_true : false ≡ true → ⊥
 false_true e = absurd cc

@@ -25,9 +25,6 @@ contents_append contents (Put content ∷ a) b = contents_append (insert_entry s
 contents_append contents (Clear path ∷ a) b = contents_append (shift_remove_entry (same path) contents) a b
 contents_append contents (Command item ∷ a) b = contents_append contents a b
 
-pub passes_none : (contents : List (List ℕ × List ℕ)) → Passes [] contents contents
-passes_none contents = record { none = refl; contents = refl }
-
 pub passes_then : (a b : List Entry) (c d e : List (List ℕ × List ℕ)) → Passes a c d → Passes b d e → Passes (a ++ b) c e
 passes_then a b c d e p q = record {
   none = none_append a b p.none q.none;

@@ -1,11 +1,8 @@
 -- The words of a line, read from the front.
-use Rattle.std.proofs.Common.{◌≡◌, ℕ, zero, suc, ◌+◌, Bool, true, false, eqb, List, [], ◌∷◌, ◌++◌, length, drop, Option, Some, None, refl, sym, ap, ◌∙◌, add-one, append_assoc}
-use Rattle.std.specs.Prelude.{option_map}
-use Rattle.std.specs.Option.{option_to_list}
-use Rattle.std.proofs.lemmas.List.{append-nil}
+use Rattle.std.proofs.Common.{◌≡◌, ℕ, zero, suc, ◌+◌, Bool, true, false, eqb, List, [], ◌∷◌, length, drop, Option, Some, None, refl, sym, ap, ◌∙◌, add-one}
 use Rattle.std.proofs.lemmas.Bool.{ne_eqb, eq-eqb}
 use Rattle.wire_text.specs.Parts.{upto, past}
-use Rattle.wire_text.specs.Words.{words_from, with_word, with_maybe, plain_word, quoted_word}
+use Rattle.wire_text.specs.Words.{words_from, with_word, plain_word, quoted_word}
 
 pub words_on : (k : ℕ) (text : List ℕ) → words_from k text ≡ words_from 0 (drop k text)
 words_on zero text = refl
@@ -35,13 +32,3 @@ module _ (first : ℕ) (text after : List ℕ) (is : text ≡ first ∷ after) w
 
   pub plain_fails : (first ≡ 0x20 → ⊥) → (first ≡ 0x22 → ⊥) → plain_word text ≡ None → words_from 0 text ≡ None
   plain_fails differs other q = ap (words_from 0) is ∙ (step differs other ∙ ap (λ (w : Option (List ℕ)). with_word w (words_from (length (upto 0x20 after)) after)) (ap plain_word (sym is) ∙ q))
-
-map_map : (done : List (List ℕ)) (word : List ℕ) (words : Option (List (List ℕ))) → option_map (λ (ws : List (List ℕ)). (done ++ word ∷ []) ++ ws) words ≡ option_map (λ (ws : List (List ℕ)). done ++ ws) (with_word (Some word) words)
-map_map done word None = refl
-map_map done word (Some words) = ap Some (append_assoc done (word ∷ []) words)
-
--- one more word, or none
-pub words_more : (done new : List (List ℕ)) (word : Option (List ℕ)) (rest behind line : List ℕ) → option_map (λ (ws : List (List ℕ)). done ++ ws) (words_from 0 rest) ≡ words_from 0 line → words_from 0 rest ≡ with_maybe word (words_from 0 behind) → new ≡ done ++ option_to_list word
-    → option_map (λ (ws : List (List ℕ)). new ++ ws) (words_from 0 behind) ≡ words_from 0 line
-words_more done new None rest behind line h says is = rw (is, append-nil done) (ap (option_map (λ (ws : List (List ℕ)). done ++ ws)) (sym says) ∙ h)
-words_more done new (Some word) rest behind line h says is = rw is (map_map done word (words_from 0 behind) ∙ (ap (option_map (λ (ws : List (List ℕ)). done ++ ws)) (sym says) ∙ h))

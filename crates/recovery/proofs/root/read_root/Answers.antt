@@ -1,4 +1,4 @@
-use Rattle.std.proofs.Common.{◌≡◌, ◌≢◌, ◌≤◌, ℕ, List, Result, length, take, refl, sym, subst, ◌∙◌, Err, Ok, arith}
+use Rattle.std.proofs.Common.{◌≡◌, ◌≢◌, ◌≤◌, ℕ, List, Result, length, take, refl, sym, subst, ◌∙◌, Ok, arith}
 use Rattle.std.proofs.lemmas.List.{take_all}
 use Rattle.disk_journal.specs.Images.{IsRoot}
 use Rattle.recovery.specs.Damage.{of_root, IsDamage}
@@ -12,9 +12,6 @@ whole_root bytes file is short = is ∙ take_all 4095 file short
 
 same_ok : {a b : ℕ} → ◌≡◌ {A = Result ℕ ℕ} (Ok a) (Ok b) → a ≡ b
 same_ok e = cc
-
-never_ok : {a b : ℕ} → ◌≡◌ {A = Result ℕ ℕ} (Err a) (Ok b) → ⊥
-never_ok e = cc
 
 pub returns-in-Ok-clause-root : goal.returns-in-Ok-clause-root
 returns-in-Ok-clause-root g c = λ files read.
