@@ -11,7 +11,7 @@ use Rattle.std.specs.Option.{option_flatten, option_or}
 use Rattle.std.proofs.lemmas.Bool.{false≢true, or_parts}
 use Rattle.std.proofs.lemmas.Bool.Decides.{nat_tests}
 use Rattle.depot_rows.specs.depot_model.Deeds as deeds
-use Rattle.depot_rows.specs.depot_model.Deeds.{Deed, Landing, Pending}
+use Rattle.depot_rows.specs.depot_model.Deeds.{Deed}
 use Rattle.depot_rows.specs.depot_model.Latest.{latest, when}
 use Rattle.depot_rows.specs.depot_model.Numbers.{landing, pending, pending_said, top}
 use Rattle.depot_rows.specs.depot_model.Steps.Changes.{number_inserted, numbers}

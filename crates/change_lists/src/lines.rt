@@ -1,6 +1,6 @@
 //! The fields of the form of a change (Command-Line Reference, "p4 change").
 
-ghost use Rattle.std.specs.Prelude.{◌≡◌, ◌++◌, true, None, IfOk, OnOk, map};
+ghost use Rattle.std.specs.Prelude.{◌≡◌, ◌++◌, true, None, IfOk, map};
 ghost use Rattle.std.specs.List.{join_with_byte};
 ghost use Rattle.depot_rows.specs.depot_path.Revision.{small_number as number_in};
 ghost use Rattle.depot_rows.specs.depot_model.Steps.Changing as model;

@@ -1,6 +1,6 @@
 //! The changes that made the revisions that arguments select (Command-Line Reference, "p4 changes").
 
-ghost use Rattle.std.specs.Prelude.{◌≡◌, ◌++◌, ℕ, [], false, List, IfOk, OnOk, filter_map, flat_map, if◌then◌else◌, length, ◌==◌, ◌∷◌};
+ghost use Rattle.std.specs.Prelude.{◌≡◌, ◌++◌, ℕ, [], false, List, IfOk, OnOk, flat_map, if◌then◌else◌, length, ◌==◌, ◌∷◌};
 ghost use Rattle.std.specs.Option.{option_to_list};
 ghost use Rattle.depot_rows.specs.db_records.declared.table.TableId.TheVariants as table_ids;
 ghost use Rattle.depot_rows.specs.table_changes.Changed.{rows_of};

@@ -1,6 +1,6 @@
 //! `change -i` (Command-Line Reference, "p4 change").
 
-ghost use Rattle.std.specs.Prelude.{◌≡◌, ◌≤◌, ◌+◌, ◌∷◌, ◌++◌, true, None, List, IfOk, IsFalse, OnOk, flat_map, length, map, option_map, unwrap_or};
+ghost use Rattle.std.specs.Prelude.{◌≡◌, ◌≤◌, ◌+◌, ◌∷◌, ◌++◌, true, None, List, IfOk, IsFalse, OnOk, flat_map, map, option_map, unwrap_or};
 ghost use Rattle.std.specs.Option.{option_copied, option_to_list};
 ghost use Rattle.depot_rows.specs.db_records.declared.key.Key.TheVariants as keys;
 ghost use Rattle.depot_rows.specs.db_records.declared.table.TableId.TheVariants as table_ids;

@@ -1,5 +1,5 @@
 -- The refusal of a change that is named, by its row (Helix Core database schema reference, "db.change").
-use Rattle.std.specs.Prelude.{ℕ, not, ◌&&◌, codes, if◌then◌else◌, Option, Some, None}
+use Rattle.std.specs.Prelude.{ℕ, not, ◌&&◌, codes, if◌then◌else◌, Option, Some}
 use Rattle.depot_rows.specs.depot_path.Bytes.{same}
 use Rattle.depot_rows.specs.db_records.declared.record.Record.{Record}
 use Rattle.depot_rows.specs.db_records.declared.record.Record.TheVariants.{Change}

@@ -1,7 +1,6 @@
 -- A command that is well-formed, and what the options give.
-use Rattle.std.proofs.Common.{◌≡◌, refl, ℕ, Bool, true, List, Option, Result, Ok}
+use Rattle.std.proofs.Common.{◌≡◌, refl, ℕ, true, List, Option, Result, Ok}
 use Rattle.std.specs.List.{list_all}
-use Rattle.std.specs.Option.{option_map_or}
 use Rattle.depot_path.specs.Answers.{◌>>=◌}
 use Rattle.depot_path.specs.Name.{is_name}
 use Rattle.depot_model.specs.Types.{is_printed_type}
@@ -16,7 +15,7 @@ use Rattle.command_words.specs.WellFormed.{IsWellFormed, has_names, has_numbers,
 use Rattle.command_words.specs.declared.arguments.Takes.{Takes}
 use Rattle.command_words.specs.declared.arguments.Takes.TheVariants.{Path, NoRevision}
 use Rattle.command_words.specs.declared.ends.Ends.{Ends}
-use Rattle.command_words.proofs.Giving.{Gives, Passes, both, gives, after_it, after_any}
+use Rattle.command_words.proofs.Giving.{Gives, both, gives, after_it, after_any}
 use Rattle.command_words.proofs.FormedArguments as found
 
 pub formed : (command : Command) → is_command command ≡ true → has_names command ≡ true → has_numbers command ≡ true → asks_rightly command ≡ true

@@ -1,5 +1,5 @@
 -- What the arguments and the options of a command are found to be.
-use Rattle.std.proofs.Common.{◌≡◌, refl, ℕ, Bool, true, false, ◌&&◌, not, nat_le, List, [], ◌∷◌, Option, Some, None, Result, Ok, Err, if◌then◌else◌}
+use Rattle.std.proofs.Common.{◌≡◌, refl, ℕ, Bool, true, false, ◌&&◌, not, nat_le, List, [], ◌∷◌, Option, Some, None, Result, Ok, if◌then◌else◌}
 use Rattle.std.specs.List.{list_all, list_any}
 use Rattle.std.specs.Option.{option_map_or}
 use Rattle.depot_path.specs.Answers.{◌>>=◌}
@@ -7,19 +7,16 @@ use Rattle.depot_path.specs.Digits.{number_of, is_digits, is_number as fits}
 use Rattle.depot_path.specs.Fit.{is_specifier}
 use Rattle.depot_path.specs.Name.{is_name}
 use Rattle.depot_path.specs.declared.file_spec.FileSpec.{FileSpec}
-use Rattle.depot_path.specs.declared.piece.Piece.{Piece}
 use Rattle.depot_path.specs.declared.revision.Wanted.{Wanted}
 use Rattle.depot_path.specs.declared.revision.Wanted.TheVariants.{Head, One, Range}
 use Rattle.depot_model.specs.view_map.Specifiers.{same_specifiers}
 use Rattle.depot_model.specs.Types.{is_type, printed_type, is_printed_type}
 use Rattle.depot_model.specs.WellFormed as formed
 use Rattle.depot_model.specs.declared.command.FileArgument.{FileArgument}
-use Rattle.depot_model.specs.declared.command.PatternArgument.{PatternArgument}
 use Rattle.depot_model.specs.declared.request.WordFault.{WordFault}
 use Rattle.depot_model.specs.declared.request.WordFault.TheVariants.{BadUsage, BadNumber}
 use Rattle.command_words.specs.Arguments as spec
 use Rattle.command_words.specs.Fields.{optional}
-use Rattle.command_words.specs.Options.{Invocation}
 use Rattle.command_words.specs.Values.{most_number, number, change, is_default, name, file_type}
 use Rattle.command_words.specs.WellFormed.{is_number}
 use Rattle.command_words.specs.declared.arguments.Takes.{Takes}

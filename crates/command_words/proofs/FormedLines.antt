@@ -1,10 +1,9 @@
 -- What a line gives is well-formed.
-use Rattle.std.proofs.Common.{◌≡◌, Bool, true, List, ℕ, [], ◌∷◌, codes, Result, Ok}
+use Rattle.std.proofs.Common.{◌≡◌, Bool, List, ℕ, [], ◌∷◌, codes, Ok}
 use Rattle.depot_path.specs.Bytes.{same}
 use Rattle.depot_model.specs.declared.command.Command.{Command}
 use Rattle.depot_model.specs.declared.line.Line.{Line}
 use Rattle.depot_model.specs.declared.line.Line.TheVariants.{Words, Bad}
-use Rattle.depot_model.specs.declared.request.WordFault.{WordFault}
 use Rattle.command_words.specs.Choice.{form_of}
 use Rattle.command_words.specs.Options.{Invocation, invocation_of}
 use Rattle.command_words.specs.Reading as spec

@@ -9,7 +9,7 @@ use Rattle.depot_model.specs.declared.request.WordFault.TheVariants.{BadUsage}
 use Rattle.command_words.specs.Arguments as arguments
 use Rattle.command_words.specs.Options.{Invocation}
 use Rattle.command_words.specs.Values as values
-use Rattle.command_words.specs.WellFormed.{IsWellFormed, is_number, is_name_or_none, is_number_or_none}
+use Rattle.command_words.specs.WellFormed.{IsWellFormed}
 use Rattle.command_words.specs.WordForms as spec
 use Rattle.command_words.specs.declared.table.BareForm.{BareForm}
 use Rattle.command_words.specs.declared.table.BareForm.TheVariants as bare

@@ -1,5 +1,5 @@
 -- What the reading of a name answers.
-use Rattle.std.proofs.Common.{◌≡◌, inl, inr, ℕ, List, Bool, true, false, Result, Ok, Err, if◌then◌else◌}
+use Rattle.std.proofs.Common.{inl, inr, ℕ, List, Bool, true, false, Result, Ok, Err, if◌then◌else◌}
 use Rattle.depot_path.specs.Answers.{Answers}
 use Rattle.depot_path.specs.Name.{is_name, name_of}
 use Rattle.depot_path.specs.declared.name.NameFault.{NameFault}

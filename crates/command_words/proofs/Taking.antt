@@ -1,5 +1,5 @@
 -- What follows from whether an option was given.
-use Rattle.std.proofs.Common.{◌≡◌, refl, subst, ℕ, List, Option, Some, None, Result, Ok, Err}
+use Rattle.std.proofs.Common.{◌≡◌, refl, subst, ℕ, List, Option, Some, None, Result, Ok}
 use Rattle.depot_path.specs.Answers.{◌>>=◌, Answers}
 use Rattle.depot_path.proofs.Answers.{right}
 use Rattle.depot_model.specs.declared.request.WordFault.{WordFault}

@@ -1,5 +1,5 @@
 -- The fields that a form takes from the options and the arguments that were given.
-use Rattle.std.specs.Prelude.{ℕ, Bool, List, Option, Some, None, Result, Ok, Err}
+use Rattle.std.specs.Prelude.{ℕ, Bool, List, Option, Some, None, Result, Ok}
 use Rattle.depot_path.specs.Answers.{◌>>=◌}
 use Rattle.depot_model.specs.declared.request.WordFault.{WordFault}
 use Rattle.depot_model.specs.declared.command.FileArgument.{FileArgument}

@@ -1,5 +1,5 @@
 -- The commands whose arguments are files, each with its options and arguments in the order of its words (Command-Line Reference, "Commands").
-use Rattle.std.specs.Prelude.{ℕ, List, codes, Result, Ok, Err}
+use Rattle.std.specs.Prelude.{codes, Result, Ok}
 use Rattle.depot_path.specs.Answers.{◌>>=◌}
 use Rattle.depot_model.specs.declared.request.WordFault.{WordFault}
 use Rattle.depot_model.specs.declared.command.Command.{Command}

@@ -1,6 +1,6 @@
 -- The command that a line spells, or the fault of its first word from the left that has one (Command-Line Reference, "Commands"; that a line
 -- begins with `p4` is how the shell calls the client, and the faults are this project's own choice).
-use Rattle.std.specs.Prelude.{ℕ, Bool, List, [], ◌∷◌, codes, if◌then◌else◌, Result, Ok, Err}
+use Rattle.std.specs.Prelude.{ℕ, Bool, List, [], ◌∷◌, codes, if◌then◌else◌, Result, Err}
 use Rattle.depot_path.specs.Answers.{◌>>=◌}
 use Rattle.depot_path.specs.Bytes.{same}
 use Rattle.depot_model.specs.declared.line.Line.{Line}

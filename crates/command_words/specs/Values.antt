@@ -1,6 +1,6 @@
 -- What a word is read as where it is the value of an option, or an argument that is no file: a number, a name, a file type, or itself
 -- (Command-Line Reference, "Commands", each command's syntax; the limits and the two faults are this project's own choice).
-use Rattle.std.specs.Prelude.{ℕ, Bool, true, false, ◌||◌, List, codes, if◌then◌else◌, Result, Ok, Err}
+use Rattle.std.specs.Prelude.{ℕ, Bool, true, ◌||◌, List, codes, if◌then◌else◌, Result, Ok, Err}
 use Rattle.depot_path.specs.Bytes.{same}
 use Rattle.depot_path.specs.Digits.{number_of, is_number}
 use Rattle.depot_path.specs.Name.{is_name}

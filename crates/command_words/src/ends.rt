@@ -1,7 +1,6 @@
 //! A source and a target of files.
 #![tactic(auto, using(depot_path::proofs::Answers::right, depot_path::proofs::Answers::wanting, depot_path::proofs::Answers::after, depot_path::proofs::Answers::fails))]
 
-ghost use Rattle.std.specs.Prelude.{◌≡◌};
 ghost use Rattle.depot_path.specs.Answers.{Answers};
 ghost use Rattle.command_words.specs.Arguments as spec;
 

@@ -16,8 +16,8 @@ mod table;
 mod values;
 mod word_forms;
 
-ghost use Rattle.std.specs.Prelude.{◌≡◌, [], Err};
-ghost use Rattle.depot_path.specs.Answers.{Answers, on_ok};
+ghost use Rattle.std.specs.Prelude.{[], Err};
+ghost use Rattle.depot_path.specs.Answers.{Answers};
 ghost use Rattle.command_words.specs.Options.{seen, invocation_of};
 ghost use Rattle.command_words.specs.Reading as spec;
 

@@ -1,6 +1,6 @@
 //! The submitted changes.
 
-ghost use Rattle.std.specs.Prelude.{◌≡◌, ◌≤◌, List, IfOk, codes, min, option_map};
+ghost use Rattle.std.specs.Prelude.{◌≡◌, List, IfOk, min};
 ghost use Rattle.std.specs.Option.{option_copied};
 ghost use Rattle.depot_rows.specs.db_records.declared.table.TableId.TheVariants as table_ids;
 ghost use Rattle.depot_rows.specs.table_changes.Changed.{rows_of};

@@ -1,11 +1,10 @@
 //! The files and their contents.
 
-ghost use Rattle.std.specs.Prelude.{◌≡◌, ◌+◌, ◌≤◌, List, IfOk, count_by, option_map};
+ghost use Rattle.std.specs.Prelude.{◌≡◌, ◌+◌, List, IfOk, count_by};
 ghost use Rattle.std.specs.Option.{option_copied, option_map_or};
 ghost use Rattle.depot_rows.specs.db_records.declared.rows.RevRecord.{RevRecord as Revised};
 ghost use Rattle.depot_rows.specs.db_records.declared.table.TableId.TheVariants as table_ids;
 ghost use Rattle.depot_rows.specs.table_changes.Changed.{rows_of};
-ghost use Rattle.depot_rows.specs.depot_model.Arguments.{submitted};
 ghost use Rattle.depot_rows.specs.depot_model.Deeds.{Deed};
 ghost use Rattle.std.specs.List.{sum_by};
 ghost use Rattle.depot_rows.specs.depot_model.Revisions.{is_live_head as live_head};

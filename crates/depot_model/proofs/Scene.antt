@@ -1,5 +1,5 @@
 -- Two sessions, each after a saved client, over a server that has every command.
-use Rattle.std.proofs.Common.{ℕ, List, [], ◌∷◌, Option, Some, None, Ok, Err, true, false}
+use Rattle.std.proofs.Common.{ℕ, List, [], ◌∷◌, Option, Some, None, Ok, Err, false}
 use Rattle.std.specs.Prelude.{codes}
 use Rattle.db_records.specs.depot_path.Pattern.{pattern_of}
 use Rattle.db_records.specs.depot_path.Revision.{file_spec_of}
@@ -16,7 +16,6 @@ use Rattle.depot_model.specs.declared.command.Command.TheVariants.{ClientSave}
 use Rattle.depot_model.specs.Commands.{step}
 use Rattle.depot_model.specs.Deeds.{Deed}
 use Rattle.depot_model.specs.Places.{Placed, told_at, taken}
-use Rattle.depot_model.specs.Step.{Step}
 
 abbrev pub ann : Caller
 ann = record { user = codes "ann"; client = codes "ws1"; host = codes "hostA" }

@@ -8,7 +8,7 @@ use Rattle.std.proofs.lemmas.List.{take-append-drop}
 use Rattle.std.proofs.lemmas.Bool.{and_parts, and_from}
 use Rattle.depot_path.specs.Bytes.{is_among, is_control, same}
 use Rattle.depot_path.specs.Utf8.{goes_on}
-use Rattle.depot_path.specs.Path.{printed, components, begins_with_slashes, has_three_dots, is_path, path_of, is_plain_after, are_plain_after, are_plain_components, is_plain_path}
+use Rattle.depot_path.specs.Path.{printed, begins_with_slashes, has_three_dots, is_path, path_of, is_plain_after, are_plain_after, are_plain_components, is_plain_path}
 use Rattle.depot_path.proofs.Units.{IsPlain, escaped_plain, rest_1, slash_split, start}
 use Rattle.depot_path.proofs.Paths.{not_false, not_not, prints_path}
 

@@ -2,7 +2,7 @@
 
 ghost use Rattle.std.specs.Prelude.{◌≡◌, ◌==◌, drop, length, nat_lt, count_by};
 ghost use Rattle.std.specs.List.{list_any};
-ghost use Rattle.depot_path.specs.Bytes.{is_among, is_control};
+ghost use Rattle.depot_path.specs.Bytes.{is_control};
 ghost use Rattle.depot_path.specs.Path.{components, begins_with_slashes, has_empty_component, has_dot_component, has_three_dots, is_text};
 
 use crate::utf8::is_utf8;

@@ -3,7 +3,6 @@
 ghost use Rattle.std.specs.Prelude.{◌≡◌, ◌≤◌, ◌<◌, ℕ, List, [], ◌∷◌, length};
 ghost use Rattle.depot_path.specs.Fit.{fits as fit_test};
 ghost use Rattle.depot_path.specs.Rows.{IsRow, with_byte as byte_step, without_byte as no_byte};
-ghost use Rattle.depot_path.specs.Pattern.{literal};
 
 use crate::piece::Piece;
 

@@ -67,7 +67,6 @@ module _ (all : AllRows) (d : List Deed) (path : List ℕ) (n : ℕ) (sound : Is
 -- ---- one of two
 
 module _ (all : AllRows) (d : List Deed) where
-
   -- a content that is there, and one that isn't
   pub is_first : (found : Found) (b : List ℕ) (o y : Option (List ℕ)) → Some b ≡ o → IsFound all d found (Some b) → IsFound all d found (option_or o y)
   is_first found b o y e h = subst (λ (x : Option (List ℕ)). IsFound all d found (option_or x y)) e h

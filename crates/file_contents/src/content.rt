@@ -1,6 +1,6 @@
 //! The content of an opened file.
 
-ghost use Rattle.std.specs.Prelude.{◌≡◌, List, ℕ, IfOk, option_and_then};
+ghost use Rattle.std.specs.Prelude.{◌≡◌, List, IfOk, option_and_then};
 ghost use Rattle.std.specs.Option.{option_copied, option_or};
 ghost use Rattle.depot_rows.specs.db_records.declared.key.Key.TheVariants as keys;
 ghost use Rattle.depot_rows.specs.db_records.declared.table.TableId.TheVariants as table_ids;

@@ -1,7 +1,6 @@
 //! Who keeps a client from opening a file.
 
-ghost use Rattle.std.specs.Prelude.{◌≡◌, ℕ, List, IfOk, Ok, filter};
-ghost use Rattle.depot_rows.specs.depot_path.Path.{path_of, printed};
+ghost use Rattle.std.specs.Prelude.{◌≡◌, List, IfOk, Ok, filter};
 ghost use Rattle.depot_rows.specs.db_records.declared.table.TableId.TheVariants as table_ids;
 ghost use Rattle.row_ranges.specs.Ranges.{has_row, range_table};
 ghost use Rattle.depot_rows.specs.table_changes.Changed.{rows_of};

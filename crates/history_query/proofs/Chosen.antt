@@ -1,12 +1,10 @@
 -- A row that was seen is that of the revision which is chosen of its file.
-use Rattle.std.proofs.Common.{◌≡◌, ℕ, List, Option, Some, None, Ok, Bor, refl, sym, ap, subst, ◌∙◌}
+use Rattle.std.proofs.Common.{◌≡◌, ℕ, List, Option, Some, Ok, Bor, refl, sym, ap, subst, ◌∙◌}
 use Rattle.std.specs.Prelude.{Contains, IfSome}
 use Rattle.std.specs.List.{All}
-use Rattle.std.specs.Option.{option_copied}
 use Rattle.std.proofs.lemmas.List.Elements.{All-contains}
 use Rattle.depot_rows.specs.depot_path.Path.{path_of, printed}
 use Rattle.depot_rows.specs.depot_path.declared.revision.Wanted.{Wanted}
-use Rattle.depot_rows.specs.db_records.Record.{key_of}
 use Rattle.depot_rows.specs.db_records.declared.key.Key.TheVariants as keys
 use Rattle.depot_rows.specs.db_records.declared.record.Record.TheVariants as records
 use Rattle.depot_rows.specs.db_records.declared.rows.RevRecord.{RevRecord}

@@ -1,6 +1,6 @@
 //! Fixes that are on, of a change and of a job (Command-Line Reference, "p4 fix", "p4 fixes").
 
-ghost use Rattle.std.specs.List.{cons_option, filter_map};
+ghost use Rattle.std.specs.List.{cons_option};
 ghost use Rattle.std.specs.Option.{option_map_or};
 ghost use Rattle.std.specs.Prelude.{◌≡◌, ◌++◌, ◌∷◌, [], true, List, IfOk, OnOk, decimal, filter, option_map};
 ghost use Rattle.depot_rows.specs.depot_path.Bytes.{same};

@@ -1,6 +1,5 @@
 //! Marks, and the lines before the records of groups.
 
-ghost use Rattle.std.specs.Prelude.{◌≡◌};
 ghost use Rattle.record_text.specs.Answers.{Gives};
 ghost use Rattle.journal_groups.specs.Reading.{exactly as exact_bytes, mark_at, head_at};
 

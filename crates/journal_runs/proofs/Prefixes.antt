@@ -1,12 +1,11 @@
 -- One commit more of a run.
 use Rattle.std.proofs.Common.{◌≡◌, ◌≢◌, ◌⊎◌, inl, inr, ⊎_elim, ℕ, zero, suc, ◌+◌, ◌<◌, ◌≤◌, List, [], ◌∷◌, ◌++◌, length, take, get_or, set, refl, sym, ◌∙◌, ap, subst, arith, length-append, get_or-set_other, get_or-set_same, below_more}
 use Rattle.std.proofs.lemmas.List.{take-append-le, take_all}
-use Rattle.outside_api.specs.Count.{HasRisen}
 use Rattle.outside_api.specs.Disk.{Files}
 use Rattle.outside_api.specs.Moments.{LeavesOnly, weaker, then}
 use Rattle.outside_api.specs.Says.{DiskSays}
 use Rattle.db_records.specs.declared.change.Change.{Change}
-use Rattle.disk_journal.specs.Images.{Committed, HasCommitted, with_group}
+use Rattle.disk_journal.specs.Images.{Committed, HasCommitted}
 use Rattle.disk_journal.specs.Stands.{Doubtful, nothing, group, HasWithOrWithout, Stands}
 use Rattle.disk_journal.specs.declared.journal.Journal.{Journal}
 use Rattle.journal_runs.specs.declared.landing.Landing.{Landing}

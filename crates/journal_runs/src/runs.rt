@@ -1,6 +1,6 @@
 //! Commits with faults between them.
 
-ghost use Rattle.std.specs.Prelude.{◌≡◌, ◌⊎◌, ◌≤◌, ◌<◌, ℕ, List, [], length, get_or, OnOk, IsErr};
+ghost use Rattle.std.specs.Prelude.{◌≡◌, ◌⊎◌, ◌≤◌, ◌<◌, ℕ, List, length, get_or, OnOk, IsErr};
 ghost use Rattle.outside_api.specs.Count.{HasCause};
 ghost use Rattle.outside_api.specs.Moments.{LeavesOnly};
 ghost use Rattle.disk_journal.specs.Images.{Committed, with_group};

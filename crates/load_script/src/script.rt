@@ -1,6 +1,6 @@
 //! The script of a seed and a number of steps.
 
-ghost use Rattle.std.specs.Prelude.{◌≡◌, ◌<◌, ◌≤◌, ◌^◌, ◌++◌, [], OnOk, IfOk};
+ghost use Rattle.std.specs.Prelude.{◌≡◌, ◌<◌, ◌++◌, [], OnOk, IfOk};
 ghost use Rattle.load_script.specs.Script.{block_line_of, block_of, commands_of, content_of, digit_of, files_after, opening_word as opening_word_of, script_of, step_of, steps_behind};
 
 use depot_path::Text;

@@ -1,9 +1,9 @@
 -- What the reading of a load's script and the serving of its session give.
-use Rattle.std.proofs.Common.{◌≡◌, ◌≤◌, ◌<◌, ℕ, Bool, true, false, List, [], ◌∷◌, length, map, get_or, Option, Some, None, refl, sym, ap, subst, ◌∙◌, arith}
-use Rattle.std.specs.Prelude.{All, AllPairs}
+use Rattle.std.proofs.Common.{◌≡◌, ℕ, Bool, true, false, List, [], ◌∷◌, length, map, get_or, Option, Some, None, refl, sym, ap, subst, arith}
+use Rattle.std.specs.Prelude.{All}
 use Rattle.outside_api.specs.Count.{HasRisen}
 use Rattle.depot_model.specs.Deeds.{Deed}
-use Rattle.depot_model.specs.Order.{IsOrder, IsPlaceOf, Rises}
+use Rattle.depot_model.specs.Order.{IsPlaceOf}
 use Rattle.depot_model.specs.Places.{Placed}
 use Rattle.depot_model.specs.declared.order.Place.{Place}
 use Rattle.depot_model.specs.declared.request.Session.{Session}

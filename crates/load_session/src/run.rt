@@ -1,8 +1,8 @@
 //! The run of the session of a load.
 
-ghost use Rattle.std.specs.Prelude.{◌≡◌, ◌≤◌, ◌∷◌, [], ℕ, List, Option, Some, None, length, false, IfOk, OnErr};
+ghost use Rattle.std.specs.Prelude.{◌≡◌, ◌≤◌, [], ℕ, List, Option, Some, None, length, IfOk, OnErr};
 ghost use Rattle.depot_model.specs.Deeds.{Deed};
-ghost use Rattle.session_loop.specs.Asking.{AreWellFormed, asking_of, commands_of};
+ghost use Rattle.session_loop.specs.Asking.{AreWellFormed, commands_of};
 ghost use Rattle.session_loop.specs.Served.{AreCaused, StandWithoutFaults};
 ghost use Rattle.load_script.specs.Script.{script_of};
 ghost use Rattle.load_session.specs.Loading.{IsAskedBy, IsLoaded, IsReadLoad, load_session as session_of};

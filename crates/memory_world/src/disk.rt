@@ -4,7 +4,7 @@ ghost use Rattle.std.specs.Prelude.{◌≡◌, ◌⊎◌, ◌≤◌, ◌<◌, �
 ghost use Rattle.outside_api.specs.Count.{HasCause, counted};
 ghost use Rattle.outside_api.specs.Disk.{Files, Follows, OnFile, Torn, Cut, Holds, Elapses, NoMore, Same, Leads, StillTells, Reads};
 ghost use Rattle.memory_world.specs.Files.{contents, put, written};
-ghost use Rattle.memory_world.specs.Failing.{Calls, calls_of, no_call, one_more, fails_next};
+ghost use Rattle.memory_world.specs.Failing.{calls_of, no_call, one_more, fails_next};
 ghost use Rattle.memory_world.specs.Replay.{IsSound};
 ghost use Rattle.memory_world.specs.declared.call.Call.TheVariants.{Look, Write, Sync};
 

@@ -1,6 +1,6 @@
 //! The bytes of numbered files, in a vector.
 
-ghost use Rattle.std.specs.Prelude.{◌≡◌, ◌≤◌, ◌<◌, ℕ, length, take, IfOk, OnOk, OnErr};
+ghost use Rattle.std.specs.Prelude.{◌≡◌, ◌<◌, ℕ, length, take, IfOk, OnOk, OnErr};
 ghost use Rattle.memory_world.specs.Files.{contents, put, written};
 
 use std::alloc::{AllocError, Global};

@@ -1,6 +1,6 @@
 //! A link to a journal in memory.
 
-ghost use Rattle.std.specs.Prelude.{◌≡◌, ◌≤◌, ◌<◌, ◌-◌, ◌+◌, ℕ, List, length, min, is_err, IfOk};
+ghost use Rattle.std.specs.Prelude.{◌≡◌, ◌≤◌, ◌<◌, ◌-◌, ℕ, List, length, min, is_err, IfOk};
 ghost use Rattle.outside_api.specs.Count.{HasCause};
 ghost use Rattle.std.specs.List.{concat};
 ghost use Rattle.outside_api.specs.Link.{text_of, IsEarlier, Answers, Fits};

@@ -1,6 +1,6 @@
 //! Bytes in memory that come and go.
 
-ghost use Rattle.std.specs.Prelude.{◌≡◌, ◌≤◌, ◌<◌, Some, [], drop, take, length, is_err, IsErr, IsTrue, IfOk, OnErr};
+ghost use Rattle.std.specs.Prelude.{◌≡◌, ◌≤◌, ◌<◌, Some, [], take, length, is_err, IsErr, IsTrue, IfOk, OnErr};
 ghost use Rattle.outside_api.specs.Count.{HasCause};
 ghost use Rattle.outside_api.specs.Told.{prepended, extended, IsAtEnd};
 ghost use Rattle.memory_world.specs.Failing.{no_call, one_more, fails_next};

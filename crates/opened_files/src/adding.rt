@@ -9,7 +9,6 @@ ghost use Rattle.depot_rows.specs.depot_model.Deeds.{Deed};
 ghost use Rattle.depot_rows.specs.depot_model.Refusals.{refusal_row};
 ghost use Rattle.depot_rows.specs.depot_model.Revisions.{is_live_head as live_head};
 ghost use Rattle.depot_rows.specs.depot_model.Rules.{IsSound};
-ghost use Rattle.depot_rows.specs.depot_model.Step.{refuses};
 ghost use Rattle.depot_rows.specs.depot_model.Steps.Adding as model;
 ghost use Rattle.depot_rows.specs.depot_model.Steps.Opening.{exclusive_refusal as exclusive_refusal_in};
 ghost use Rattle.depot_rows.specs.depot_model.WellFormed.{spells_path};

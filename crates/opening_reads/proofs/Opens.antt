@@ -7,7 +7,7 @@ use Rattle.depot_rows.specs.depot_path.Path.{printed, is_path}
 use Rattle.depot_rows.specs.depot_path.declared.fault.PathFault.{PathFault}
 use Rattle.depot_rows.proofs.depot_path.Paths.{prints_path}
 use Rattle.depot_rows.specs.depot_model.Deeds as model
-use Rattle.depot_rows.specs.depot_model.Deeds.{Deed, Open, Opening, Source, Action}
+use Rattle.depot_rows.specs.depot_model.Deeds.{Deed, Opening, Source, Action}
 use Rattle.depot_rows.specs.depot_model.Opened.{opened}
 use Rattle.depot_rows.specs.db_records.declared.record.Record.{Record}
 use Rattle.depot_rows.specs.db_records.declared.record.Record.TheVariants as records

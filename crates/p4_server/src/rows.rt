@@ -1,6 +1,6 @@
 //! The rows of all tables as text.
 
-ghost use Rattle.std.specs.Prelude.{◌≡◌, ◌≤◌};
+ghost use Rattle.std.specs.Prelude.{◌≤◌};
 ghost use Rattle.depot_rows.specs.db_records.Table.{all_tables};
 ghost use Rattle.p4_server.specs.Rows.{row_text, rows_text, tables_text, Prints};
 ghost use Rattle.depot_rows.specs.table_store.Tables.{version_of};

@@ -1,6 +1,6 @@
 //! All parties, each on a thread of its own.
 
-ghost use Rattle.std.specs.Prelude.{◌≡◌, ◌≤◌, ◌<◌, ◌+◌, ◌++◌, ◌∷◌, ◌||◌, ◌↔◌, ℕ, List, [], true, false, length, map, vec_len, vec_capacity, All, IfErr, IfOk};
+ghost use Rattle.std.specs.Prelude.{◌≡◌, ◌≤◌, ◌<◌, ◌+◌, ◌++◌, ◌∷◌, ◌||◌, ◌↔◌, ℕ, List, [], false, length, map, vec_len, vec_capacity, All, IfErr, IfOk};
 ghost use Rattle.archive_file.specs.Archive.{disk_of as archive_disk_of};
 ghost use Rattle.depot_model.specs.db_records.declared.table.TableId.{TableId};
 ghost use Rattle.depot_model.specs.Deeds.{Deed};

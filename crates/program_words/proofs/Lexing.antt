@@ -10,14 +10,14 @@ use Rattle.std.proofs.lemmas.Slice.Eq.{bytes_eq-Decides}
 use Rattle.depot_path.specs.Bytes.{begins_with}
 use Rattle.depot_path.specs.Name.{begins_with_dash}
 use Rattle.clap.specs.Lexer.{long_of, short_of, name_and_value}
-use Rattle.clap.specs.Walk.{Held, Outcome, Row, Rule, Step, Text, Waiting, after_flag, arg_by_long, bundle, bundle_met, bundle_step, long_or_other, plain_word, short_or_plain, short_word, subcommand_met, subcommand_or_other, word_met}
+use Rattle.clap.specs.Walk.{Held, Outcome, Row, Rule, Text, Waiting, after_flag, arg_by_long, bundle, bundle_met, bundle_step, long_or_other, plain_word, short_or_plain, short_word, subcommand_met, subcommand_or_other, word_met}
 use Rattle.clap.specs.Walk as walk
 use Rattle.clap.specs.Kinds.{Kinds}
 use Rattle.clap.specs.Faults.{bundle_fault, bundle_step_fault, flag_word_fault, flags_fault, long_fault, other_fault, word_fault}
 use Rattle.clap.specs.declared.error.kind.ErrorKind.{ErrorKind}
 use Rattle.clap.specs.declared.error.kind.ErrorKind.TheVariants as kind
 use Rattle.clap.specs.Simple.{Shape, built}
-use Rattle.program_words.specs.Words.{Setting, Saying, saying_of}
+use Rattle.program_words.specs.Words.{Setting, saying_of}
 use Rattle.program_words.specs.Words as spec
 use Rattle.program_words.specs.Commands.{words_app}
 

@@ -1,7 +1,7 @@
 -- What `clap` makes of the words, and what they ask.
 use Rattle.std.proofs.Common.{◌≡◌, ◌∙◌, ◌⊎◌, inl, inr, ℕ, Bool, true, false, refl, sym, ap, ap₂, subst, List, [], ◌∷◌, ◌++◌, append-nil, append_assoc, map, unwrap_or, Option, Some, None, codes}
 use Rattle.std.specs.Prelude.{fold, option_and_then, option_map, IfNone, IfSome}
-use Rattle.clap.specs.Walk.{Held, Row, Rule, Waiting, Walk, finished, rows_of, settled, settled_rows, walk_from, walked, nothing_held}
+use Rattle.clap.specs.Walk.{Held, Row, Waiting, Walk, finished, rows_of, settled, settled_rows, walked, nothing_held}
 use Rattle.clap.specs.Walk as walk
 use Rattle.clap.specs.Kinds.{IsAmong, Kinds, or_else}
 use Rattle.clap.specs.Faults.{check_fault, defaults_fault, fault_of, is_simple_and_free, settle_fault, turn_fault, walk_fault, word_fault}

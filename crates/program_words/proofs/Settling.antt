@@ -1,12 +1,12 @@
 -- The rows of a walk, and what settling does to them.
 use Rattle.std.proofs.Common.{◌≡◌, ◌∙◌, ◌⊎◌, inl, inr, false, refl, sym, ap, subst, List, [], ◌∷◌, ◌++◌, Option, Some, None, codes}
-use Rattle.clap.specs.Walk.{Held, Row, Rule, Waiting, first_of, has_row, settled_rows, with_values, without}
+use Rattle.clap.specs.Walk.{Row, Waiting, settled_rows, with_values, without}
 use Rattle.clap.specs.Walk as walk
 use Rattle.clap.specs.Faults.{settle_fault}
 use Rattle.clap.specs.declared.builder.value_parser.Reading.TheVariants.{AsWritten}
 use Rattle.clap.specs.declared.error.kind.ErrorKind.TheVariants as kind
 use Rattle.clap.specs.declared.parser.matches.ValueSource.TheVariants.{CommandLine}
-use Rattle.program_words.specs.Words.{Job, Said, Setting, asked_by, job_with, seed_given, count_given}
+use Rattle.program_words.specs.Words.{Said, Setting, asked_by, seed_given, count_given}
 use Rattle.program_words.specs.Words as spec
 use Rattle.program_words.proofs.Asking.{Text, joined, no_count, no_seed, opt_list}
 use Rattle.program_words.proofs.Lexing.{IsFault, held_with, is_fault, option_name, rules}

@@ -1,7 +1,7 @@
 -- What one word does to the walk over the words.
 use Rattle.std.proofs.Common.{◌≡◌, ◌∙◌, ◌||◌, ℕ, Bool, true, false, refl, sym, ap, ap₂, List, [], ◌∷◌, ◌++◌, Option, Some, None, codes, true≢false}
 use Rattle.std.proofs.lemmas.Bool.{and_right}
-use Rattle.clap.specs.Walk.{Held, Row, Rule, Step, Text, Waiting, Walk, after_step, arg_by_id, arg_by_index, is_pending, pushed, plain_word, positional_held, reacted, settled, settled_rows, takes_several, to_positional, used, walked, word_met}
+use Rattle.clap.specs.Walk.{Held, Row, Rule, Step, Text, Waiting, Walk, after_step, arg_by_index, is_pending, plain_word, settled_rows, to_positional, walked, word_met}
 use Rattle.clap.specs.Walk as walk
 use Rattle.clap.specs.Kinds.{Kinds, or_else}
 use Rattle.clap.specs.Faults.{settle_fault, step_fault, turn_fault, word_fault}

@@ -1,6 +1,6 @@
 //! Numbered files in a folder.
 
-ghost use Rattle.std.specs.Prelude.{◌≡◌, ◌≤◌, ◌<◌, ◌^◌, length, Ok, IfOk, OnOk};
+ghost use Rattle.std.specs.Prelude.{◌≡◌, ◌<◌, length, Ok, IfOk, OnOk};
 ghost use Rattle.outside_api.specs.Count.{HasCause};
 
 use crate::count::Faults;

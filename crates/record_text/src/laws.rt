@@ -1,6 +1,5 @@
 //! What holds of all records' texts.
 
-ghost use Rattle.std.specs.Prelude.{◌≡◌};
 ghost use Rattle.db_records.specs.declared.change.Op.{Op};
 ghost use Rattle.db_records.specs.declared.record.Record.{Record};
 ghost use Rattle.record_text.specs.Reading.{Reads};

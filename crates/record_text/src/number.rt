@@ -1,6 +1,6 @@
 //! Numbers at the front.
 
-ghost use Rattle.std.specs.Prelude.{◌≡◌, ◌+◌, ◌*◌, ◌<◌, ◌≤◌, nat_le, if◌then◌else◌, Some, None};
+ghost use Rattle.std.specs.Prelude.{◌≡◌, ◌+◌, ◌*◌, ◌<◌, nat_le, if◌then◌else◌, Some, None};
 ghost use Rattle.record_text.specs.Spelling.{number_at};
 ghost use Rattle.record_text.specs.Grammar.{largest_count, largest_wide};
 ghost use Rattle.record_text.specs.Answers.{Gives};

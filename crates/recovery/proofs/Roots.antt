@@ -49,7 +49,6 @@ closed_all rest count within next is = elim (cases_lt count (length rest)) [
 
 -- a root has one generation: the number of its leading open bytes
 module _ (root : List ℕ) (count : ℕ) (within : count ≤ length root) (before : (k : ℕ) → k < count → get_or root k 0 ≡ 101) (next : count < length root → get_or root count 0 ≢ 101) where
-
   pub one_generation : (generation : ℕ) → IsRoot generation root → count ≡ generation
   one_generation generation is = elim (cases_lt count generation) [
     | inl below ↦ absurd (next (omega (arith, below, ap length is.is, length-append (replicate generation 101) is.tail, length-replicate {A = ℕ} generation 101)) (ap (λ (l : List ℕ). get_or l count 0) is.is ∙ at_front generation 101 is.tail count below))

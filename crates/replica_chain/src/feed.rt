@@ -4,9 +4,6 @@ ghost use Rattle.std.specs.Prelude.{◌≡◌, ◌+◌, ◌<◌, ◌^◌, length
 ghost use Rattle.std.specs.Result.{IfErr};
 ghost use Rattle.depot_rows.specs.table_changes.Changed.{AllFitIn, changed_by, rows_of};
 ghost use Rattle.depot_rows.specs.table_changes.Drafts.{rows_of_draft};
-ghost use Rattle.journal_groups.specs.Causes.{GoesOn};
-ghost use Rattle.journal_groups.specs.Reader.{BeginsAt};
-ghost use Rattle.recovery.specs.Pieces.{AreAllGood};
 ghost use Rattle.replica_pull.specs.Feed.{IsBadPlace, IsFirstMisfit, IsNextOf};
 ghost use Rattle.replica_chain.specs.Feed.{IfBadFeed, IsOfFeed};
 

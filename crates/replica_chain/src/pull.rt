@@ -1,12 +1,12 @@
 //! Following the journal of another depot.
 
-ghost use Rattle.std.specs.Prelude.{◌≡◌, ◌⊎◌, ◌+◌, ◌-◌, ◌≤◌, ◌<◌, ◌^◌, ◌++◌, [], ℕ, List, length, Err, IfOk, OnErr, OnOk, IsErr};
+ghost use Rattle.std.specs.Prelude.{◌≡◌, ◌⊎◌, ◌+◌, ◌-◌, ◌≤◌, ◌<◌, ◌^◌, ◌++◌, [], ℕ, List, length, Err, IfOk, OnErr, OnOk};
 ghost use Rattle.std.specs.Result.{IfErr};
 ghost use Rattle.archive_file.specs.Archive.{Has, disk_of as archive_disk_of, used_of};
 ghost use Rattle.depot_rows.specs.db_records.declared.change.Change.{Change as AnyChange};
 ghost use Rattle.disk_journal.specs.Images.{Committed, HasEither, with_group};
 ghost use Rattle.disk_journal.specs.Keeping.{KeepsOlder};
-ghost use Rattle.disk_journal.specs.Stands.{IsStill, Stands, disk_of, generation_of_journal, group, nothing};
+ghost use Rattle.disk_journal.specs.Stands.{IsStill, Stands, disk_of, group, nothing};
 ghost use Rattle.journal_groups.specs.Causes.{GoesOn};
 ghost use Rattle.journal_groups.specs.Groups.{IsGroup, group_text, mark, open_byte};
 ghost use Rattle.journal_groups.specs.Reader.{BeginsAt};
@@ -22,7 +22,7 @@ ghost use Rattle.replica_chain.specs.Copying.{AreBrought, IfBadContent, IfNoByte
 ghost use Rattle.replica_chain.specs.Ends.{KeepsScanned};
 ghost use Rattle.replica_chain.specs.Masters.{GoesOnBehind, HasNoFewer, IsBehind, TellsGroups, Upstream};
 ghost use Rattle.replica_chain.specs.Node.{CanFollow, IsNode, IsSettled};
-ghost use Rattle.replica_chain.specs.Pulling.{HasFollowed, HasMoved, HasStopped, HasTakenGroup, HasTakenGroups, HasTakenPiece, IsCutShort, IsFetched, IsRefused, IsUntaken, IsUnread, IsWhereItWas, with_piece};
+ghost use Rattle.replica_chain.specs.Pulling.{HasFollowed, HasStopped, HasTakenGroup, HasTakenGroups, HasTakenPiece, IsCutShort, IsRefused, IsUntaken, IsUnread, IsWhereItWas};
 ghost use Rattle.replica_chain.specs.declared.fault.NodeFault.TheVariants as faults;
 
 use crate::contents::bring_contents;

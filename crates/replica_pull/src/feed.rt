@@ -1,6 +1,6 @@
 //! Taking whole groups, cut to a filter.
 
-ghost use Rattle.std.specs.Prelude.{◌≡◌, ◌+◌, ◌-◌, ◌<◌, ◌≤◌, ◌^◌, ℕ, List, length, take, IfOk, OnOk};
+ghost use Rattle.std.specs.Prelude.{◌≡◌, ◌+◌, ◌-◌, ◌<◌, ◌≤◌, ◌^◌, List, length, take, IfOk, OnOk};
 ghost use Rattle.std.specs.Result.{IfErr};
 ghost use Rattle.depot_rows.specs.db_records.declared.change.Change.{Change};
 ghost use Rattle.journal_groups.specs.Causes.{GoesOn};

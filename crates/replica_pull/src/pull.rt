@@ -1,6 +1,6 @@
 //! Following a master's journal.
 
-ghost use Rattle.std.specs.Prelude.{◌≡◌, ◌⊎◌, ◌≤◌, ◌<◌, ◌+◌, ◌-◌, ◌*◌, ◌^◌, ◌++◌, ℕ, List, [], length, drop, Err, IfOk, OnErr};
+ghost use Rattle.std.specs.Prelude.{◌≡◌, ◌⊎◌, ◌≤◌, ◌<◌, ◌+◌, ◌-◌, ◌^◌, ◌++◌, ℕ, List, [], length, drop, Err, IfOk, OnErr};
 ghost use Rattle.std.specs.Result.{IfErr};
 ghost use Rattle.depot_rows.specs.db_records.declared.change.Change.{Change};
 ghost use Rattle.outside_api.specs.Link.{IsEarlier, Answers, Fits};

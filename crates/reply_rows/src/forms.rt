@@ -1,8 +1,8 @@
 //! The fields of forms, as rows show them: a single field's value where it has one, and the lines of another field numbered from 0.
 
-ghost use Rattle.std.specs.Prelude.{◌≡◌, ◌++◌, ℕ, ◌+◌, ◌≤◌, ◌^◌, List, map, decimal, IfOk, OnOk, length};
+ghost use Rattle.std.specs.Prelude.{◌≡◌, ◌++◌, ◌+◌, map, decimal, IfOk, OnOk};
 ghost use Rattle.std.specs.List.{enumerate_from};
-ghost use Rattle.depot_rows.specs.depot_model.FormRows.{form_fields as fields_of_form, numbered, shown_as, shown_field, value_fields as fields_of_value};
+ghost use Rattle.depot_rows.specs.depot_model.FormRows.{form_fields as fields_of_form, numbered, shown_as, shown_field};
 ghost use Rattle.depot_rows.specs.depot_model.Rows.{text_field as field_of_text};
 
 use crate::fields::text_field;

@@ -1,10 +1,9 @@
 //! The rows of refusals: a code, a name, and what is refused. Each function's one error is want of memory.
 
 ghost use Rattle.std.specs.Prelude.{◌≡◌, ◌∷◌, [], IfOk, codes};
-ghost use Rattle.depot_rows.specs.depot_path.Fault.{code_of};
 ghost use Rattle.depot_rows.specs.depot_path.Path.{printed};
 ghost use Rattle.depot_rows.specs.depot_model.Refusals.{limit, limit_word as word_of_limit, need_word as word_of_need, refusal_row};
-ghost use Rattle.depot_rows.specs.depot_model.Rows.{coded_row as row_of_code, text_field as field_of_text, number_field as field_of_number};
+ghost use Rattle.depot_rows.specs.depot_model.Rows.{coded_row as row_of_code};
 ghost use Rattle.depot_rows.specs.depot_model.declared.refusal.Refusal.TheVariants as refusals;
 
 use crate::fields::{change_field, number_field, path_field, row_of, text_field};

@@ -1,11 +1,10 @@
 //! The revisions of a file for which a range asks.
 
-ghost use Rattle.std.specs.Prelude.{◌≡◌, ◌++◌, ◌∷◌, [], ◌&&◌, ◌==◌, ℕ, Bool, List, nat_le, int_le, pos, false, filter, if◌then◌else◌, IfOk, OnOk, option_map};
+ghost use Rattle.std.specs.Prelude.{◌≡◌, ◌++◌, ◌∷◌, [], ◌==◌, List, nat_le, int_le, pos, false, filter, if◌then◌else◌, IfOk, OnOk, option_map};
 ghost use Rattle.std.specs.List.{range_with_len};
 ghost use Rattle.std.specs.Option.{option_copied, option_map_or};
 ghost use Rattle.depot_rows.specs.db_records.declared.table.TableId.TheVariants as table_ids;
 ghost use Rattle.depot_rows.specs.table_changes.Changed.{rows_of};
-ghost use Rattle.depot_rows.specs.depot_model.Choice.{chosen as chosen_in};
 ghost use Rattle.depot_rows.specs.depot_model.Deeds.{Deed};
 ghost use Rattle.depot_rows.specs.depot_model.Range as model;
 ghost use Rattle.depot_rows.specs.depot_model.Revisions.{head as head_in, revision};

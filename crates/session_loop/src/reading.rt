@@ -1,6 +1,6 @@
 //! Reading a session or a replica's script: what it asks, line by line.
 
-ghost use Rattle.std.specs.Prelude.{◌≡◌, ◌≤◌, ◌+◌, ◌++◌, ◌∷◌, List, [], ◌≢◌, Err, None, length, map, IfOk, IfSome, OnOk, IsTrue, IsFalse};
+ghost use Rattle.std.specs.Prelude.{◌≡◌, ◌≤◌, ◌+◌, ◌∷◌, List, [], ◌≢◌, Err, None, length, map, IfOk, IfSome, OnOk, IsTrue, IsFalse};
 ghost use Rattle.std.specs.List.{list_all};
 ghost use Rattle.wire_text.specs.Script.{has_short_content};
 ghost use Rattle.wire_text.specs.declared.entry.Entry.{Entry};

@@ -10,7 +10,7 @@ use Rattle.depot_rows.specs.depot_model.declared.order.Place.{Place}
 use Rattle.depot_rows.specs.depot_model.declared.request.Request.{Request}
 use Rattle.depot_runs.specs.Run.{placed}
 use Rattle.depot_rows.specs.depot_model.Commands.{step}
-use Rattle.lock_machine.specs.Machine.{Commit, Finish, NoMemory, Party, State, Work, event, is_enabled, stopped}
+use Rattle.lock_machine.specs.Machine.{Commit, Finish, Party, State, Work, event, is_enabled, stopped}
 use Rattle.lock_machine.specs.Machine as machine
 use Rattle.lock_machine.specs.declared.stage.Stage.TheVariants.{Judged}
 use Rattle.lock_machine.proofs.Places.{some_is}

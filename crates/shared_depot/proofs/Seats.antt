@@ -1,5 +1,5 @@
 -- The seats of lanes that were made one after another, taken from the last on.
-use Rattle.std.proofs.Common.{◌≡◌, ◌-◌, ◌≤◌, ℕ, suc, List, [], ◌∷◌, ◌++◌, refl, sym, ap, ◌∙◌, arith, lit<}
+use Rattle.std.proofs.Common.{◌≡◌, ◌-◌, ◌≤◌, ℕ, suc, List, [], ◌∷◌, ◌++◌, refl, sym, ap, ◌∙◌, arith}
 use Rattle.std.proofs.lemmas.List.{append_assoc}
 use Rattle.locked_tables.specs.Known.{PartyKnown}
 use Rattle.order_words.specs.Seats.{LaneState, Run, fresh_lane, fresh_lanes}

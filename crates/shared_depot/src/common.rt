@@ -1,17 +1,13 @@
 //! What lies behind the lock of the order.
-ghost use Rattle.std.specs.Prelude.{◌≡◌, ◌++◌, ◌∷◌, ◌^◌, ◌-◌, ◌≤◌, ℕ, List, [], false, true, filter, map, IfSome, IsSome, IsTrue, OnOk};
-ghost use Rattle.depot_rows.specs.db_records.Table.{all_tables};
+ghost use Rattle.std.specs.Prelude.{◌≡◌, ◌-◌, List, [], IfSome, IsSome};
 ghost use Rattle.depot_rows.specs.db_records.declared.table.TableId.{TableId};
-ghost use Rattle.depot_rows.specs.depot_model.Deeds.{Deed};
-ghost use Rattle.depot_rows.specs.depot_model.Tables.{needs_of};
 ghost use Rattle.depot_rows.specs.depot_model.declared.request.Request.{Request};
 ghost use Rattle.depot_rows.specs.table_changes.Changed.{rows_of};
-ghost use Rattle.disk_journal.specs.declared.journal.Journal.{Journal};
 ghost use Rattle.locked_tables.specs.Known.{GoesOnWithout};
 ghost use Rattle.locked_tables.specs.Taken.{archive_lane, end_after, rows_after};
 ghost use Rattle.table_locks.specs.Confirmed.{IsConfirmed};
 ghost use Rattle.table_locks.specs.Gathered.{Covers, HasSet, IsShown};
-ghost use Rattle.shared_depot.specs.Common.{AreQuiet, GoesOnQuietly, HasRunOrder, WasRun};
+ghost use Rattle.shared_depot.specs.Common.{GoesOnQuietly, WasRun};
 
 use crate::serving::Serving;
 use depot_rows::tables::Tables;

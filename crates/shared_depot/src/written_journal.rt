@@ -3,8 +3,8 @@ ghost use Rattle.std.specs.Prelude.{◌≡◌, [], IfOk};
 ghost use Rattle.depot_rows.specs.db_records.declared.table.TableId.{TableId};
 ghost use Rattle.depot_rows.specs.table_changes.Changed.{AllFitIn, changed_by, rows_of};
 ghost use Rattle.disk_journal.specs.Stands.{disk_of};
-ghost use Rattle.locked_tables.specs.Taken.{end_after, rows_after};
-ghost use Rattle.shared_depot.specs.Common.{GoesOnQuietly, HasRunOrder};
+ghost use Rattle.locked_tables.specs.Taken.{rows_after};
+ghost use Rattle.shared_depot.specs.Common.{HasRunOrder};
 
 use crate::common::CommonDepot;
 use crate::serving::Serving;

@@ -7,11 +7,10 @@ ghost use Rattle.depot_rows.specs.spec_form.Form.{value_lines};
 ghost use Rattle.depot_rows.specs.spec_form.Printing.{tabbed};
 ghost use Rattle.depot_rows.specs.depot_model.Deeds.{Deed};
 ghost use Rattle.depot_rows.specs.depot_model.Opened.{opened};
-ghost use Rattle.depot_rows.specs.depot_model.Rows.{action_word as word_of_action};
 ghost use Rattle.depot_rows.specs.depot_model.Rules.{IsSound};
 ghost use Rattle.depot_rows.specs.depot_model.Shelves as model;
 ghost use Rattle.depot_rows.specs.depot_model.Values.{valued};
-ghost use Rattle.depot_rows.specs.Deed.{action_of, opening_of, source_of};
+ghost use Rattle.depot_rows.specs.Deed.{opening_of, source_of};
 ghost use Rattle.shelf_ops.specs.Forms.{fields_text, opened_fields, owner_fields};
 
 use depot_rows::forms::{Form, Shape};

@@ -1,6 +1,6 @@
 //! The limits of the forms that a command saves.
 
-ghost use Rattle.std.specs.Prelude.{◌≡◌, ◌/◌, List, IfOk, length, map, nat_lt, sum};
+ghost use Rattle.std.specs.Prelude.{◌≡◌, ◌/◌, List, IfOk, map, nat_lt, sum};
 ghost use Rattle.depot_rows.specs.table_changes.Changed.{AllRows};
 ghost use Rattle.depot_rows.specs.depot_model.Deeds.{Deed as ModelDeed};
 ghost use Rattle.depot_rows.specs.depot_model.Step.{Step as ModelStep};

@@ -1,7 +1,6 @@
 //! The law of all requests and sound depots.
 
 ghost use Rattle.std.specs.Prelude.{List, IsTrue};
-ghost use Rattle.depot_rows.specs.depot_model.declared.command.Command.{Command};
 ghost use Rattle.depot_rows.specs.depot_model.declared.request.Request.{Request};
 ghost use Rattle.depot_rows.specs.depot_model.Commands.{step};
 ghost use Rattle.depot_rows.specs.depot_model.Deeds.{Deed};

@@ -1,6 +1,6 @@
 //! Cutting a text into lines, and a line into its parts.
 
-ghost use Rattle.std.specs.Prelude.{◌≡◌, ◌∷◌, [], true, false, IfNone, IfSome, length, ◌<◌, ◌≤◌, ◌≢◌};
+ghost use Rattle.std.specs.Prelude.{◌≡◌, ◌∷◌, [], true, false, IfNone, IfSome, length, ◌<◌, ◌≢◌};
 ghost use Rattle.depot_path.specs.Bytes.{is_among};
 ghost use Rattle.spec_form.specs.Texts.{before, behind, is_blank, text_lines, trimmed_end, trimmed_start};
 

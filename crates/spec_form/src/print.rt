@@ -1,6 +1,6 @@
 //! Printing forms.
 
-ghost use Rattle.std.specs.Prelude.{◌≡◌, ◌++◌, [], IfOk, OnOk};
+ghost use Rattle.std.specs.Prelude.{◌≡◌, ◌++◌, IfOk, OnOk};
 ghost use Rattle.std.specs.List.{flat_map};
 ghost use Rattle.spec_form.specs.Printing.{printed, printed_as, printed_field, tabbed, tabbed_line};
 

@@ -1,6 +1,5 @@
 -- Deeds that count nothing and make no line leave the generation and the lines as they were, and, where they number no change 0, that number too.
 use Rattle.std.proofs.Common.{◌≡◌, ◌≤◌, ◌+◌, ℕ, List, [], ◌∷◌, ◌++◌, refl, ◌∙◌}
-use Rattle.std.specs.Prelude.{if◌then◌else◌}
 use Rattle.std.specs.List.{AllByRecursion}
 use Rattle.depot_model.specs.db_records.declared.key.Key.TheVariants as keys
 use Rattle.record_text.specs.Grammar.{largest_count}
@@ -30,7 +29,6 @@ pub record Leaves (d e : List Deed) : Type 0 where
   pub lines : record_of e (keys.Protect (largest_count + 1)) ≡ record_of d (keys.Protect (largest_count + 1))
 
 module _ (d : List Deed) where
-
   one_leaves : (least : ℕ) (deed : Deed) → IsPlain least deed → Leaves d (deed ∷ d)
   one_leaves least (Count name value) h = absurd h
   one_leaves least (Guard lines) h = absurd h

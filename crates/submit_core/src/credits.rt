@@ -7,7 +7,6 @@ ghost use Rattle.depot_rows.specs.depot_model.Deeds.{Deed, Opening};
 ghost use Rattle.depot_rows.specs.depot_model.Opened.{opened};
 ghost use Rattle.depot_rows.specs.depot_model.Rules.{IsSound};
 ghost use Rattle.depot_rows.specs.depot_model.Steps.Submitting.{credits_of as credits_said};
-ghost use Rattle.depot_rows.specs.depot_path.Path.{printed};
 ghost use Rattle.depot_rows.specs.Deed.{credit_of as credit_said};
 ghost use Rattle.depot_rows.specs.Standing.{HasRows};
 ghost use Rattle.row_ranges.specs.Ranges.{has_row, range_table};

@@ -1,6 +1,6 @@
 //! The jobs that a submitted change closes.
 
-ghost use Rattle.std.specs.Prelude.{◌≡◌, ◌==◌, List, OnOk, flat_map};
+ghost use Rattle.std.specs.Prelude.{◌==◌, List, OnOk, flat_map};
 ghost use Rattle.depot_rows.specs.db_records.declared.table.TableId.TheVariants as table_ids;
 ghost use Rattle.depot_rows.specs.depot_model.Deeds.{Deed};
 ghost use Rattle.depot_rows.specs.depot_model.Fixes as model;

@@ -1,7 +1,6 @@
 //! `submit` (Command-Line Reference, "p4 submit").
 
-ghost use Rattle.std.specs.Prelude.{◌≡◌, ◌==◌, ◌∷◌, ◌++◌, ◌⊎◌, [], List, IfOk, IsFalse, Some, None, flat_map, length, map, nat_lt, option_map};
-ghost use Rattle.std.specs.Option.{option_copied};
+ghost use Rattle.std.specs.Prelude.{◌≡◌, ◌==◌, List, IfOk, IsFalse, Some, None, length, map, option_map};
 ghost use Rattle.depot_rows.specs.db_records.declared.table.TableId.TheVariants as table_ids;
 ghost use Rattle.depot_rows.specs.depot_model.Deeds.{Deed, Pending};
 ghost use Rattle.depot_rows.specs.depot_model.declared.request.Request.{Request as AnyRequest};
@@ -9,8 +8,6 @@ ghost use Rattle.depot_rows.specs.depot_model.Numbers.{pending};
 ghost use Rattle.depot_rows.specs.depot_model.Refusals.{refusal_row};
 ghost use Rattle.depot_rows.specs.depot_model.Rules.{IsSound};
 ghost use Rattle.depot_rows.specs.depot_model.Shelves.{is_shelved};
-ghost use Rattle.depot_rows.specs.depot_model.Step.{refuse_if};
-ghost use Rattle.depot_rows.specs.depot_model.Steps.Opening.{change_refusal as change_refused};
 ghost use Rattle.depot_rows.specs.depot_model.Steps.Submitting as model;
 ghost use Rattle.depot_rows.specs.depot_model.declared.refusal.Limit.TheVariants as limits;
 ghost use Rattle.depot_rows.specs.depot_model.declared.refusal.Refusal.TheVariants as refusals;

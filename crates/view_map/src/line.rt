@@ -6,7 +6,7 @@ ghost use Rattle.depot_path.specs.Answers.{Answers};
 ghost use Rattle.depot_path.specs.Bytes.{begins_with};
 ghost use Rattle.depot_path.specs.Pattern.{literal};
 ghost use Rattle.view_map.specs.Carry.{is_paired, is_exclusion as exclusion_test, is_overlay as overlay_test};
-ghost use Rattle.view_map.specs.Reading.{begins_quoted as quoted_test, quoted_side as side_in_quotes, up_to_space, side_at as side_in, sign_of as sign_in, unsigned as without_sign, first_side as first_in, without_spaces as spaceless, is_space, is_quote, sides_of as sides_in, side_of, root_of as root_in, line_with, line_of};
+ghost use Rattle.view_map.specs.Reading.{begins_quoted as quoted_test, quoted_side as side_in_quotes, side_at as side_in, sign_of as sign_in, unsigned as without_sign, first_side as first_in, without_spaces as spaceless, is_space, is_quote, sides_of as sides_in, side_of, root_of as root_in, line_with, line_of};
 
 use crate::fault::ViewCause;
 use crate::specifiers::same_specifiers;

@@ -1,6 +1,6 @@
 //! Which specifier of one pattern answers which of another.
 
-ghost use Rattle.std.specs.Prelude.{◌≡◌, ◌∷◌, [], ◌+◌, ◌≤◌, ◌<◌, ◌^◌, length, IfOk, IfSome, IfNone};
+ghost use Rattle.std.specs.Prelude.{◌≡◌, ◌∷◌, [], ◌+◌, ◌<◌, ◌^◌, length, IfOk, IfSome, IfNone};
 ghost use Rattle.std.specs.List.{list_all};
 ghost use Rattle.view_map.specs.Specifiers.{same_label, labels, labels_after, stars_past, dots_past, stands_once as once, same_specifiers as same_in, text_for as text_of, answering as answers};
 

@@ -1,22 +1,22 @@
 -- What the part of a line of each kind says.
-use Rattle.std.proofs.Common.{◌≡◌, ℕ, ◌+◌, ◌-◌, ◌<◌, ◌≤◌, Bool, true, false, eqb, List, [], ◌∷◌, ◌++◌, length, Option, Some, None, Result, Ok, Err, refl, sym, ap, ◌∙◌, arith, length-append, append_assoc}
+use Rattle.std.proofs.Common.{◌≡◌, ℕ, ◌+◌, ◌-◌, ◌<◌, ◌≤◌, Bool, false, eqb, List, [], ◌∷◌, ◌++◌, length, Option, Some, Result, Ok, Err, sym, ap, ◌∙◌, arith, length-append, append_assoc}
 use Rattle.std.specs.Prelude.{is_some}
 use Rattle.std.specs.Option.{option_to_list}
 use Rattle.std.proofs.lemmas.List.{append-nil}
 use Rattle.wire_text.specs.Parts.{past, IsFree}
 use Rattle.wire_text.specs.LineKind.{kind_of}
 use Rattle.wire_text.specs.Intake.{Taken, Moves, Stops}
-use Rattle.wire_text.specs.Script.{Point, Part, block_of, with_block, part_of, part_by_line, whole_line, first_part, behind, entries_from, rest_of, with_front, ends_with, fault_at, number_after}
-use Rattle.wire_text.specs.Reading.{GoesOn, Ends, PartCase, point_at, stopped_of, end_between}
+use Rattle.wire_text.specs.Script.{Point, Part, block_of, with_block, part_of, part_by_line, whole_line, first_part, rest_of, with_front, ends_with, fault_at, number_after}
+use Rattle.wire_text.specs.Reading.{Ends, PartCase, point_at, stopped_of, end_between}
 use Rattle.wire_text.specs.declared.intake.Stop.{Stop}
 use Rattle.wire_text.specs.declared.entry.Entry.{Entry}
-use Rattle.wire_text.specs.declared.part.PartRead.TheVariants.{Read, Ended}
+use Rattle.wire_text.specs.declared.part.PartRead.TheVariants.{Read}
 use Rattle.wire_text.specs.declared.fault.ScriptFaultKind.{ScriptFaultKind}
-use Rattle.wire_text.specs.declared.fault.ScriptFaultKind.TheVariants.{LongLine, BadData, Cut, LongData}
+use Rattle.wire_text.specs.declared.fault.ScriptFaultKind.TheVariants.{LongLine, BadData, Cut}
 use Rattle.wire_text.specs.declared.line_kind.LineKind.{LineKind}
-use Rattle.wire_text.proofs.Separators.{past_line, upto_line}
+use Rattle.wire_text.proofs.Separators.{past_line}
 use Rattle.wire_text.proofs.Takings.{moves_none}
-use Rattle.wire_text.proofs.Says.{long_line, line_there, line_cut, block_there, block_bad, block_cut, entries_cut, IsPlaced, long_placed, bad_placed, says_part, says_bad, goes_on, ends_by, stopped, part_then}
+use Rattle.wire_text.proofs.Says.{long_line, line_there, line_cut, block_there, block_bad, block_cut, entries_cut, IsPlaced, long_placed, bad_placed, says_part, says_bad, goes_on, ends_by, stopped}
 
 pub kind_is : (client line : List ℕ) (input : Option (List ℕ)) (waits : Bool) (kind k : LineKind) → waits ≡ is_some input → kind ≡ kind_of client waits line → kind ≡ k → kind_of client (is_some input) line ≡ k
 kind_is client line input waits kind k e f is = ap (λ (w : Bool). kind_of client w line) (sym e) ∙ (sym f ∙ is)

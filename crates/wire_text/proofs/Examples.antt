@@ -1,9 +1,9 @@
 -- Worked rows: what small scripts say.
-use Rattle.std.proofs.Common.{◌≡◌, List, [], ◌∷◌, Some, None, refl}
+use Rattle.std.proofs.Common.{◌≡◌, [], ◌∷◌, Some, None, refl}
 use Rattle.std.specs.Prelude.{codes}
-use Rattle.depot_model.specs.declared.line.Line.TheVariants.{Words, Bad}
+use Rattle.depot_model.specs.declared.line.Line.TheVariants.{Words}
 use Rattle.wire_text.specs.Contents.{contents_after}
-use Rattle.wire_text.specs.Script.{Script, script_of, headless, fault_at}
+use Rattle.wire_text.specs.Script.{script_of, headless, fault_at}
 use Rattle.wire_text.specs.Words.{words_from}
 use Rattle.wire_text.specs.declared.entry.Entry.{Entry}
 use Rattle.wire_text.specs.declared.entry.Entry.TheVariants.{Put, Clear, Command}

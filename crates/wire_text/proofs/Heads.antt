@@ -1,11 +1,11 @@
 -- The parts of a head.
-use Rattle.std.proofs.Common.{◌≡◌, ℕ, ◌+◌, ◌<◌, ◌≤◌, Bool, true, false, ◌&&◌, List, [], ◌∷◌, ◌++◌, length, get_or, drop, Option, None, refl, sym, ap, ◌∙◌, arith}
+use Rattle.std.proofs.Common.{◌≡◌, ℕ, ◌+◌, ◌<◌, ◌≤◌, true, List, [], ◌∷◌, ◌++◌, length, None, refl, sym, ap, ◌∙◌, arith}
 use Rattle.std.specs.Borrow.{Bor}
 use Rattle.std.specs.List.{onto_first}
 use Rattle.std.proofs.lemmas.List.{length-map}
 use Rattle.wire_text.specs.Parts.{upto, past, is_in, IsFree, parted, texts}
 use Rattle.wire_text.specs.Head.{head_of_parts, session_head}
-use Rattle.wire_text.proofs.Separators.{eqb_same, split_upto, free_upto}
+use Rattle.wire_text.proofs.Separators.{split_upto, free_upto}
 
 parted_line : (line more : List ℕ) → IsFree 0x20 line → parted (line ++ 0x20 ∷ more) ≡ line ∷ parted more
 parted_line [] more free = refl

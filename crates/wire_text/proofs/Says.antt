@@ -1,16 +1,14 @@
 -- What the parts of a script say, read from the front.
-use Rattle.std.proofs.Common.{◌≡◌, ℕ, zero, suc, ◌+◌, ◌-◌, ◌<◌, ◌≤◌, Bool, true, false, cond, eqb, ◌&&◌, ◌||◌, List, [], ◌∷◌, ◌++◌, length, take, drop, Option, Some, None, Result, Ok, Err, refl, sym, ap, ◌∙◌, arith, add-zero, add-one, length-append, append_assoc}
-use Rattle.std.specs.Prelude.{nat_lt, nat_le, is_some, IfSome}
+use Rattle.std.proofs.Common.{◌≡◌, ℕ, zero, suc, ◌+◌, ◌-◌, ◌<◌, ◌≤◌, Bool, true, false, cond, eqb, ◌||◌, List, [], ◌∷◌, ◌++◌, length, take, Option, Some, None, Result, Ok, Err, refl, sym, ap, ◌∙◌, arith, add-zero, add-one, length-append, append_assoc}
+use Rattle.std.specs.Prelude.{nat_lt, is_some, IfSome}
 use Rattle.std.specs.Option.{option_to_list}
 use Rattle.std.proofs.lemmas.Bool.{lt-ltb, le-ltb}
 use Rattle.std.proofs.lemmas.List.{append-nil, take_all, take_at, drop_at, drop_all}
-use Rattle.outside_api.specs.Count.{HasRisen}
 use Rattle.outside_api.specs.Told.{prepended, IsAtEnd}
 use Rattle.wire_text.specs.Parts.{upto, past, is_in, IsFree}
-use Rattle.wire_text.specs.LineKind.{kind_of}
-use Rattle.wire_text.specs.Intake.{Taken, Moves, Stops, StopCase}
-use Rattle.wire_text.specs.Script.{Point, Part, Entries, block_of, part_of, whole_line, first_part, behind, said, entries_from, rest_of, limited, with_front, ends_with, end_fault, fault_at, stop_place, too_long, max_script, number_after}
-use Rattle.wire_text.specs.Reading.{GoesOn, Ends, Breaks, PartCase, point_at, stopped_of, end_between}
+use Rattle.wire_text.specs.Intake.{Taken, Moves, Stops}
+use Rattle.wire_text.specs.Script.{Point, Part, Entries, block_of, whole_line, first_part, behind, said, entries_from, rest_of, limited, with_front, ends_with, fault_at, stop_place, too_long, max_script}
+use Rattle.wire_text.specs.Reading.{GoesOn, Ends, PartCase, stopped_of, end_between}
 use Rattle.wire_text.specs.declared.intake.Stop.{Stop}
 use Rattle.wire_text.specs.declared.intake.Stop.TheVariants.{End, Over, Failed}
 use Rattle.wire_text.specs.declared.entry.Entry.{Entry}
@@ -18,10 +16,9 @@ use Rattle.wire_text.specs.declared.part.PartRead.{PartRead}
 use Rattle.wire_text.specs.declared.part.PartRead.TheVariants.{Read, Ended, Failed as PartFailed}
 use Rattle.wire_text.specs.declared.fault.ScriptFault.{ScriptFault}
 use Rattle.wire_text.specs.declared.fault.ScriptFaultKind.{ScriptFaultKind}
-use Rattle.wire_text.specs.declared.fault.ScriptFaultKind.TheVariants.{BadHead, LongLine, BadData, Cut, LongData}
-use Rattle.wire_text.specs.declared.line_kind.LineKind.{LineKind}
-use Rattle.wire_text.proofs.Separators.{upto_line, past_line, in_line, not_in, upto_none, upto_long}
-use Rattle.wire_text.proofs.Takings.{prepended-prepended, prepended-nil, risen_before}
+use Rattle.wire_text.specs.declared.fault.ScriptFaultKind.TheVariants.{LongLine, BadData, Cut, LongData}
+use Rattle.wire_text.proofs.Separators.{upto_line, in_line, not_in, upto_none, upto_long}
+use Rattle.wire_text.proofs.Takings.{prepended-prepended, risen_before}
 
 -- ---- lines and blocks
 

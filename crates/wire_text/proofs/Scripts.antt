@@ -1,14 +1,12 @@
 -- What a whole script says.
-use Rattle.std.proofs.Common.{◌≡◌, ℕ, ◌+◌, ◌-◌, ◌<◌, ◌≤◌, Bool, true, false, List, [], ◌∷◌, ◌++◌, length, Option, Some, None, Result, Ok, Err, refl, sym, ap, ◌∙◌, arith, zero-add, length-append, append_assoc}
+use Rattle.std.proofs.Common.{◌≡◌, ℕ, ◌+◌, ◌-◌, ◌<◌, ◌≤◌, List, [], ◌∷◌, ◌++◌, length, Option, Some, None, Result, Ok, Err, refl, sym, ap, ◌∙◌, arith, zero-add, length-append, append_assoc}
 use Rattle.std.specs.Prelude.{IfSome}
-use Rattle.std.specs.Option.{option_to_list}
 use Rattle.std.proofs.lemmas.List.{append-nil}
-use Rattle.outside_api.specs.Count.{HasRisen}
-use Rattle.outside_api.specs.Told.{prepended, IsAtEnd}
-use Rattle.wire_text.specs.Parts.{upto, past, IsFree}
+use Rattle.outside_api.specs.Told.{prepended}
+use Rattle.wire_text.specs.Parts.{past, IsFree}
 use Rattle.wire_text.specs.Head.{head_of, client_of}
 use Rattle.wire_text.specs.Intake.{Taken, Moves, Stops}
-use Rattle.wire_text.specs.Script.{Point, Entries, Script, rest_of, with_front, ends_with, fault_at, stop_place, number_after, whole_line, head_by_line, head_or, begun, start, headed, headless, script_of}
+use Rattle.wire_text.specs.Script.{Point, Entries, Script, rest_of, with_front, ends_with, fault_at, number_after, whole_line, head_by_line, head_or, begun, start, headed, headless, script_of}
 use Rattle.wire_text.specs.Reading.{GoesOn, Ends, Breaks, point_at, HeadCase, EntriesCase, IsRead, end_by, head_stopped}
 use Rattle.wire_text.specs.declared.head.Head.{Head}
 use Rattle.wire_text.specs.declared.entry.Entry.{Entry}

@@ -1,10 +1,9 @@
 -- Separators in a text.
-use Rattle.std.proofs.Common.{◌≡◌, ℕ, zero, suc, ◌+◌, ◌-◌, ◌<◌, ◌≤◌, Bool, true, false, cond, eqb, List, [], ◌∷◌, ◌++◌, length, get_or, take, drop, Option, Some, None, refl, sym, ap, ◌∙◌, arith, add-one, zero-le, length-append, append_assoc}
+use Rattle.std.proofs.Common.{◌≡◌, ℕ, zero, suc, ◌+◌, ◌-◌, ◌<◌, ◌≤◌, Bool, true, false, cond, eqb, List, [], ◌∷◌, ◌++◌, length, get_or, take, drop, Some, None, refl, sym, ap, ◌∙◌, arith, add-one, zero-le, length-append, append_assoc}
 use Rattle.std.specs.Prelude.{nat_lt}
 use Rattle.std.proofs.lemmas.List.{drop_at, drop_all, drop_more, take_rest, take-append-drop, length-take-le, length-drop, get_or-drop}
 use Rattle.std.proofs.lemmas.Bool.{lt-ltb, le-ltb, ltb-true, eqb-true, eq-eqb, false_from_ne_true}
-use Rattle.memchr.specs.Find.{Nowhere, Passes, is_byte}
-use Rattle.wire_text.specs.Parts.{upto, past, is_in, IsFree, Halves, cut_or, last_cut}
+use Rattle.wire_text.specs.Parts.{upto, past, is_in, IsFree, last_cut}
 
 -- no separator stands before a place
 abbrev pub Before : ℕ → List ℕ → ℕ → Type 0

@@ -1,6 +1,6 @@
 -- Bytes that are taken from a source and read.
-use Rattle.std.proofs.Common.{◌≡◌, ℕ, zero, suc, ◌+◌, ◌-◌, ◌<◌, ◌≤◌, Bool, true, false, List, [], ◌∷◌, ◌++◌, length, take, drop, Option, Some, None, refl, sym, ap, ◌∙◌, arith, add-zero, length-append, append_assoc}
-use Rattle.std.proofs.lemmas.List.{append-nil, drop-take, drop-drop, length-take, length-drop, take-append-drop, drop_all}
+use Rattle.std.proofs.Common.{◌≡◌, ℕ, ◌+◌, ◌-◌, ◌<◌, ◌≤◌, Bool, true, false, List, [], ◌∷◌, ◌++◌, length, take, drop, Option, Some, None, refl, sym, ap, ◌∙◌, arith, add-zero, length-append, append_assoc}
+use Rattle.std.proofs.lemmas.List.{append-nil, drop-take, drop-drop, length-take, take-append-drop, drop_all}
 use Rattle.outside_api.specs.Count.{HasRisen}
 use Rattle.outside_api.specs.Told.{prepended}
 use Rattle.wire_text.specs.Parts.{upto, past, is_in, IsFree}

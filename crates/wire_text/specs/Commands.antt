@@ -1,5 +1,5 @@
 -- What reading a script command by command gives.
-use Rattle.std.specs.Prelude.{◌≡◌, ◌≤◌, ℕ, ◌+◌, Bool, false, List, [], ◌∷◌, ◌++◌, Option, Some, None, Result, Ok, Err, IfSome}
+use Rattle.std.specs.Prelude.{◌≡◌, ◌≤◌, ℕ, ◌+◌, false, List, [], ◌∷◌, ◌++◌, Option, Some, None, IfSome}
 use Rattle.outside_api.specs.Count.{HasRisen}
 use Rattle.outside_api.specs.Told.{prepended}
 use Rattle.wire_text.specs.Contents.{contents_after, has_command}
@@ -10,7 +10,6 @@ use Rattle.std.specs.Option.{option_to_list}
 use Rattle.wire_text.specs.declared.entry.Item.{Item as ItemOf}
 use Rattle.wire_text.specs.declared.entry.Entry.{Entry}
 use Rattle.wire_text.specs.declared.entry.Entry.TheVariants.{Command}
-use Rattle.wire_text.specs.declared.fault.ScriptFault.{ScriptFault}
 use Rattle.wire_text.specs.declared.reader.ItemRead.{ItemRead}
 use Rattle.wire_text.specs.declared.reader.ItemRead.TheVariants.{Item, Ended, Failed}
 

@@ -1,6 +1,6 @@
 -- What a session says that its files hold: the last block of each, in the order in which the files were first named since they were last cleared.
 -- This is this project's own choice; a real client reads the files of its workspace.
-use Rattle.std.specs.Prelude.{ℕ, Bool, true, false, ◌||◌, List, [], ◌∷◌}
+use Rattle.std.specs.Prelude.{ℕ, Bool, true, false, List, [], ◌∷◌}
 use Rattle.indexmap.specs.IndexMap.{insert_entry, shift_remove_entry}
 use Rattle.depot_model.specs.depot_path.Bytes.{same}
 use Rattle.wire_text.specs.declared.entry.Entry.{Entry}

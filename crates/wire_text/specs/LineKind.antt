@@ -1,5 +1,5 @@
 -- What a line of a script is for, by its first word. The form of these lines is this project's own choice.
-use Rattle.std.specs.Prelude.{ℕ, Bool, true, false, ◌||◌, ◌&&◌, ◌==◌, nat_le, List, [], ◌∷◌, drop, codes, if◌then◌else◌, Option, Some, None, Result, Ok, Err}
+use Rattle.std.specs.Prelude.{ℕ, Bool, true, false, ◌&&◌, ◌==◌, nat_le, List, [], ◌∷◌, drop, codes, if◌then◌else◌, Option, Some, None, Result, Ok, Err}
 use Rattle.depot_model.specs.depot_path.Bytes.{same}
 use Rattle.depot_model.specs.depot_path.Digits.{number_of, is_digits}
 use Rattle.depot_model.specs.depot_path.Path.{path_of}

@@ -2,8 +2,7 @@
 use Rattle.std.specs.Prelude.{◌≡◌, ℕ, ◌+◌, List, [], ◌++◌, Option, Some, None, Result, Ok, Err, IfSome}
 use Rattle.outside_api.specs.Count.{HasRisen}
 use Rattle.outside_api.specs.Told.{prepended}
-use Rattle.wire_text.specs.Intake.{Taken}
-use Rattle.wire_text.specs.Script.{Script, headed, headless, script_of, rest_of}
+use Rattle.wire_text.specs.Script.{headed, headless, script_of, rest_of}
 use Rattle.wire_text.specs.Head.{client_of}
 use Rattle.wire_text.specs.Reading.{point_at}
 use Rattle.wire_text.specs.Commands.{ItemCase}

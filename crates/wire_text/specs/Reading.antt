@@ -1,10 +1,10 @@
 -- What reading a script from a source gives.
-use Rattle.std.specs.Prelude.{◌≡◌, ◌<◌, ◌≤◌, ℕ, ◌+◌, Bool, ◌||◌, nat_lt, if◌then◌else◌, List, [], ◌∷◌, ◌++◌, length, Option, Some, None, IfSome, is_some}
+use Rattle.std.specs.Prelude.{◌≡◌, ◌<◌, ◌≤◌, ℕ, ◌+◌, Bool, ◌||◌, nat_lt, if◌then◌else◌, List, [], ◌++◌, Option, Some, None, IfSome}
 use Rattle.std.specs.Option.{option_to_list}
 use Rattle.outside_api.specs.Count.{HasRisen}
 use Rattle.outside_api.specs.Told.{prepended}
 use Rattle.wire_text.specs.Intake.{Taken}
-use Rattle.wire_text.specs.Script.{Point, Entries, Script, headed, headless, script_of, rest_of, with_front, ends_with, number_after, fault_at, too_long}
+use Rattle.wire_text.specs.Script.{Point, headed, headless, script_of, rest_of, with_front, ends_with, number_after, fault_at, too_long}
 use Rattle.wire_text.specs.declared.fault.ScriptFault.{ScriptFault}
 use Rattle.wire_text.specs.declared.entry.Entry.{Entry}
 use Rattle.wire_text.specs.declared.fault.ScriptFaultKind.TheVariants.{Cut}

@@ -1,6 +1,6 @@
 -- The words of a command line, whose form is this project's own choice: words with spaces between. A word is a run of bytes other than space and
 -- `"`, or stands between two `"` and holds any bytes but these.
-use Rattle.std.specs.Prelude.{ℕ, zero, suc, ◌+◌, Bool, true, not, ◌&&◌, ◌||◌, ◌==◌, nat_le, List, [], ◌∷◌, length, if◌then◌else◌, option_map, Option, Some, None}
+use Rattle.std.specs.Prelude.{ℕ, zero, suc, ◌+◌, Bool, true, not, ◌&&◌, ◌==◌, nat_le, List, [], ◌∷◌, length, if◌then◌else◌, option_map, Option, Some, None}
 use Rattle.std.specs.List.{list_any}
 use Rattle.depot_model.specs.depot_path.Bytes.{is_control}
 use Rattle.depot_model.specs.depot_path.Utf8.{is_utf8}

@@ -1,6 +1,6 @@
 //! What a session says that its files hold.
 
-ghost use Rattle.std.specs.Prelude.{◌≡◌, IfOk};
+ghost use Rattle.std.specs.Prelude.{IfOk};
 ghost use Rattle.wire_text.specs.Commands.{KeepCase};
 
 use crate::entry::{Entry, Item};

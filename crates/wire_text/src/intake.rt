@@ -1,6 +1,6 @@
 //! Taking the bytes of a script from its source, a buffer at a time.
 
-ghost use Rattle.std.specs.Prelude.{◌≡◌, ◌<◌, ◌≤◌, ◌+◌, ◌-◌, [], ◌++◌, length, take, drop, IfOk, IfErr, IfSome, IfNone};
+ghost use Rattle.std.specs.Prelude.{◌≡◌, ◌<◌, ◌≤◌, ◌+◌, ◌-◌, [], length, take, drop, IfOk, IfErr, IfSome, IfNone};
 ghost use Rattle.outside_api.specs.Told.{prepended};
 ghost use Rattle.wire_text.specs.Intake.{Moves, StopCase, Stops};
 

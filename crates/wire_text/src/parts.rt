@@ -1,6 +1,6 @@
 //! Parts of a line.
 
-ghost use Rattle.std.specs.Prelude.{◌≡◌, ◌<◌, [], ◌∷◌, length, true, false, IfOk, IfSome, IfNone, Some, None};
+ghost use Rattle.std.specs.Prelude.{◌≡◌, ◌<◌, [], length, true, false, IfSome, IfNone, Some, None};
 ghost use Rattle.wire_text.specs.Parts.{upto, past, is_in, IsFree, last_cut};
 
 use memchr::{memchr, memrchr};

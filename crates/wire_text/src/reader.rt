@@ -1,6 +1,6 @@
 //! Reading a script command by command.
 
-ghost use Rattle.std.specs.Prelude.{◌≡◌, ◌≤◌, ◌+◌, [], IfOk};
+ghost use Rattle.std.specs.Prelude.{◌≡◌, ◌≤◌, ◌+◌, IfOk};
 ghost use Rattle.wire_text.specs.Commands.{ItemCase};
 ghost use Rattle.wire_text.specs.Reading.{point_at};
 

@@ -1,4 +1,4 @@
-use Rattle.std.proofs.Common.{List, ℕ, refl, sym, subst}
+use Rattle.std.proofs.Common.{List, refl, sym, subst}
 use Rattle.std.specs.Prelude.{IsTrue}
 use Rattle.std.specs.List.{list_all}
 use Rattle.depot_rows.specs.db_records.declared.table.TableId.TheVariants as tables

@@ -1,9 +1,8 @@
-use Rattle.std.proofs.Common.{◌≡◌, Option, Some, None, true, refl, sym, ap, ◌∙◌}
+use Rattle.std.proofs.Common.{Some, sym, ap, ◌∙◌}
 use Rattle.std.specs.Prelude.{codes, flat_map, not, option_map, ◌&&◌}
 use Rattle.std.specs.Option.{option_copied}
 use Rattle.depot_rows.specs.protect_table.Rights.{may_any}
 use Rattle.depot_rows.specs.depot_model.declared.command.FileArgument.{FileArgument}
-use Rattle.depot_rows.specs.depot_model.declared.refusal.Refusal.{Refusal}
 use Rattle.depot_rows.specs.depot_model.declared.refusal.Refusal.TheVariants.{Denied, NoClient, NoSuchLabel}
 use Rattle.depot_rows.specs.depot_model.About.{about}
 use Rattle.depot_rows.specs.depot_model.Asking.{may_anywhere, is_client}

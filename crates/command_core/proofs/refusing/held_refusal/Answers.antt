@@ -1,8 +1,6 @@
-use Rattle.std.proofs.Common.{[], ◌∷◌, sym, ap, ◌∙◌}
-use Rattle.std.specs.Prelude.{option_map}
+use Rattle.std.proofs.Common.{[], ◌∷◌, sym, ◌∙◌}
 use Rattle.depot_rows.specs.depot_model.declared.refusal.Refusal.TheVariants.{Shelved, Fixed}
 use Rattle.depot_rows.specs.depot_model.Fixes.{is_fixing}
-use Rattle.depot_rows.specs.depot_model.Refusals.{refusal_row}
 use Rattle.depot_rows.specs.depot_model.Shelves.{is_shelved}
 use Rattle.depot_rows.specs.depot_model.Step.{refuse_if}
 use Rattle.command_core.proofs.Refusals.{first_here, first_later, one_refusal}

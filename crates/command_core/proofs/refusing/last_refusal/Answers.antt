@@ -1,4 +1,4 @@
-use Rattle.std.proofs.Common.{refl, sym, ap, ◌∙◌, subst}
+use Rattle.std.proofs.Common.{sym, ap, ◌∙◌}
 use Rattle.std.specs.Prelude.{option_map}
 use Rattle.depot_rows.specs.depot_model.declared.command.Command.{Command}
 use Rattle.depot_rows.specs.depot_model.declared.refusal.Refusal.TheVariants.{Shelved}

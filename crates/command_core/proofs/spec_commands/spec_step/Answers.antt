@@ -1,5 +1,4 @@
-use Rattle.std.proofs.Common.{List, ℕ, [], refl, sym, subst}
-use Rattle.std.specs.Prelude.{unwrap_or}
+use Rattle.std.proofs.Common.{List, ℕ, refl, sym, subst}
 use Rattle.depot_rows.specs.db_records.declared.table.TableId.TheVariants as tables
 use Rattle.depot_rows.specs.table_changes.Changed.{rows_of}
 use Rattle.depot_rows.specs.depot_model.declared.command.Command.{Command}
@@ -7,8 +6,6 @@ use Rattle.depot_rows.specs.depot_model.Commands.{own_step}
 use Rattle.depot_rows.specs.depot_model.Steps.Changing.{change_save}
 use Rattle.depot_rows.specs.depot_model.Steps.Clients.{client_save, client_show}
 use Rattle.depot_rows.specs.depot_model.Steps.Groups.{group_save}
-use Rattle.depot_rows.specs.depot_model.Steps.Placing.{have_step}
-use Rattle.depot_rows.specs.depot_model.Steps.Reverting.{lock, opened_step, reopen, unlock}
 use Rattle.depot_rows.specs.depot_model.Steps.Labels.{label_save}
 use Rattle.depot_rows.specs.depot_model.Steps.Protections.{protect_save}
 use Rattle.reply_rows.specs.Made.{IsMade}

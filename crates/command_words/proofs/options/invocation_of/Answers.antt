@@ -1,4 +1,4 @@
-use Rattle.std.proofs.Common.{rules, ◌≡◌, ℕ, List, [], Ok, Err, Some, None, Result, map, is_ok, ap, sym, subst, ◌∙◌, length, ◌∷◌, ◌++◌}
+use Rattle.std.proofs.Common.{rules, ◌≡◌, ℕ, List, [], Ok, Err, Result, is_ok, sym, subst, ◌∷◌, ◌++◌}
 use Rattle.depot_path.specs.Answers.{Answers, on_ok}
 use Rattle.depot_path.proofs.Answers.{right}
 use Rattle.depot_model.specs.declared.request.WordFault.{WordFault}

@@ -1,4 +1,4 @@
-use Rattle.std.proofs.Common.{◌≡◌, [], length, Result}
+use Rattle.std.proofs.Common.{[], length, Result}
 use Rattle.depot_path.specs.Answers.{Answers}
 use Rattle.depot_model.specs.declared.request.WordFault.{WordFault}
 use Rattle.depot_model.specs.declared.request.WordFault.TheVariants.{Memory}

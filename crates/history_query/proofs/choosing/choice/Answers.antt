@@ -1,5 +1,3 @@
-use Rattle.std.proofs.Common.{sym, ap, subst, ◌∙◌}
-use Rattle.std.specs.Option.{option_copied}
 use Rattle.depot_rows.specs.table_changes.Changed.{rows_of}
 use Rattle.revision_reads.proofs.Wanting.{wanted_had}
 use Rattle.newest_revisions.specs.Seen.{kept}

@@ -1,4 +1,4 @@
-use Rattle.std.proofs.Common.{◌≡◌, ◌≤◌, ◌<◌, ℕ, ◌+◌, List, [], ◌∷◌, ◌++◌, length, take, set, sym, subst, ◌∙◌, ap, arith, length-take}
+use Rattle.std.proofs.Common.{◌≡◌, ◌<◌, ◌+◌, List, [], ◌∷◌, ◌++◌, length, take, set, sym, subst, ◌∙◌, ap, arith, length-take}
 use Rattle.std.proofs.lemmas.List.{take_more, take_more_set}
 use Rattle.outside_api.specs.Moments.{started}
 use Rattle.db_records.specs.declared.change.Change.{Change}

@@ -1,4 +1,4 @@
-use Rattle.std.proofs.Common.{◌≡◌, ◌≤◌, ◌<◌, ℕ, get_or, take}
+use Rattle.std.proofs.Common.{◌≤◌, ◌<◌, ℕ, get_or, take}
 use Rattle.disk_journal.specs.Images.{Committed}
 use Rattle.disk_journal.specs.Stands.{nothing, Stands}
 use Rattle.journal_runs.specs.declared.landing.Landing.TheVariants.{NoMemory}

@@ -1,5 +1,4 @@
 use Rattle.std.proofs.Common.{sym, ap, ◌∙◌}
-use Rattle.std.specs.Prelude.{option_map}
 use Rattle.depot_rows.specs.depot_path.Path.{is_path}
 use Rattle.depot_rows.proofs.depot_path.Paths.{prints_path}
 use Rattle.depot_rows.specs.depot_model.Revisions.{revision}

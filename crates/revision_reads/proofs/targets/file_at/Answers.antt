@@ -1,4 +1,4 @@
-use Rattle.std.proofs.Common.{List, ℕ, ap, ◌∙◌}
+use Rattle.std.proofs.Common.{ap, ◌∙◌}
 use Rattle.depot_rows.specs.depot_model.Steps.Adding.{first_live}
 use Rattle.revision_reads.proofs.targets.file_at.Goals as goal
 

@@ -1,5 +1,5 @@
-use Rattle.std.proofs.Common.{◌≡◌, ◌≤◌, ◌+◌, ◌-◌, ◌∙◌, take, length, length-append, length-take, ap, arith, refl, zero-le, List, ℕ}
-use Rattle.wire_text.proofs.Takings.{moves_none, moves_on, stops_then, bytes_move, none_held}
+use Rattle.std.proofs.Common.{◌-◌, ◌∙◌, take, length, length-append, length-take, ap, arith, zero-le, List, ℕ}
+use Rattle.wire_text.proofs.Takings.{moves_none, moves_on, stops_then, bytes_move}
 use Rattle.wire_text.proofs.blocks.read_bytes.Goals as goal
 
 pub loop-bytes-init : goal.loop-bytes-init

@@ -1,4 +1,3 @@
-use Rattle.std.proofs.Common.{◌∷◌, [], ap}
 use Rattle.wire_text.proofs.Heads.{parted_cut, parted_whole}
 use Rattle.wire_text.proofs.head.cut_part.Goals as goal
 

@@ -1,4 +1,4 @@
-use Rattle.std.proofs.Common.{◌+◌, arith}
+use Rattle.std.proofs.Common.{arith}
 use Rattle.wire_text.proofs.Takings.{takes_whole, takes_all}
 use Rattle.wire_text.proofs.lines.move_line.Goals as goal
 

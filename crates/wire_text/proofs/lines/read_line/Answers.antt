@@ -1,5 +1,5 @@
-use Rattle.std.proofs.Common.{◌≡◌, ◌≤◌, ◌+◌, length, arith, refl, zero-le}
-use Rattle.wire_text.proofs.Takings.{moves_none, moves_on, stops_then, line_part, line_whole, line_long, moved_length}
+use Rattle.std.proofs.Common.{arith, zero-le}
+use Rattle.wire_text.proofs.Takings.{moves_none, moves_on, stops_then, line_part, line_whole, line_long}
 use Rattle.wire_text.proofs.lines.read_line.Goals as goal
 
 pub loop-line-init : goal.loop-line-init

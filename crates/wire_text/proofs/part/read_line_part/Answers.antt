@@ -1,6 +1,5 @@
-use Rattle.std.proofs.Common.{◌≡◌, ◌+◌, ◌-◌, List, ℕ, length, Some, None, Option, refl, sym, ap, ◌∙◌, arith}
+use Rattle.std.proofs.Common.{◌+◌, ◌-◌, List, ℕ, length, Some, None, refl, arith}
 use Rattle.wire_text.specs.Words.{line_of}
-use Rattle.wire_text.specs.LineKind.{kind_of}
 use Rattle.wire_text.specs.declared.entry.Entry.TheVariants.{Put, Clear, Command}
 use Rattle.wire_text.proofs.Says.{bad_placed, data_placed}
 use Rattle.wire_text.specs.declared.fault.ScriptFaultKind.TheVariants.{BadData, LongData}

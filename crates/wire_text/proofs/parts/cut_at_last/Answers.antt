@@ -1,4 +1,4 @@
-use Rattle.std.proofs.Common.{sym, zero-le}
+use Rattle.std.proofs.Common.{zero-le}
 use Rattle.wire_text.proofs.Separators.{last_at, last_none, free_from}
 use Rattle.wire_text.proofs.parts.cut_at_last.Goals as goal
 

@@ -1,4 +1,4 @@
-use Rattle.std.proofs.Common.{arith, ap}
+use Rattle.std.proofs.Common.{arith}
 use Rattle.wire_text.proofs.Items.{no_item, entry_passed, command_there}
 use Rattle.wire_text.proofs.reader.read_item.Goals as goal
 

@@ -1,4 +1,4 @@
-use Rattle.std.proofs.Common.{◌≡◌, ◌≤◌, ◌-◌, List, []}
+use Rattle.std.proofs.Common.{◌≤◌, ◌-◌, List, []}
 use Rattle.wire_text.specs.Commands.{Passes}
 use Rattle.wire_text.specs.Reading.{GoesOn, point_at}
 use Rattle.wire_text.specs.declared.entry.Entry.{Entry}

@@ -1,4 +1,4 @@
-use Rattle.wire_text.proofs.WordLists.{space_says, quoted_says, quoted_fails, plain_says, plain_fails}
+use Rattle.wire_text.proofs.WordLists.{quoted_says, plain_says}
 use Rattle.wire_text.proofs.words.word_at.Goals as goal
 
 pub returns-in-Some-clause-word : goal.returns-in-Some-clause-word

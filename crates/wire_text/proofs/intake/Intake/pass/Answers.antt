@@ -1,4 +1,4 @@
-use Rattle.std.proofs.Common.{◌≡◌, ◌≤◌, List, ℕ, length, drop, sym, ap, ◌∙◌, arith}
+use Rattle.std.proofs.Common.{length, drop, ap, ◌∙◌, arith}
 use Rattle.wire_text.specs.Intake.{Taken}
 use Rattle.wire_text.proofs.Takings.{drop_range}
 use Rattle.wire_text.proofs.intake.Intake.pass.Goals as goal

@@ -1,4 +1,4 @@
-use Rattle.std.proofs.Common.{sym, ap, ◌∙◌, arith, refl, List, ℕ, ◌++◌, []}
+use Rattle.std.proofs.Common.{sym, ap, ◌∙◌, arith, refl, []}
 use Rattle.std.proofs.lemmas.List.{append-nil}
 use Rattle.wire_text.specs.Intake.{Taken}
 use Rattle.wire_text.proofs.Takings.{prepended-nil}
