@@ -57,6 +57,7 @@ fn rows_tell_made(tables: &Tables)
         list_any (is_listable_row asker) (rows_made n (rows_of tables.now table_ids.Rev)) ≡ is_listable d caller n }
 {
     let version = tables.version(TableId::Rev);
+    // the rows of a version are of its table, their keys rising
     let _table = version.table();
 }
 

@@ -104,6 +104,7 @@ const HEAD_ROOM: u64 = 47;
 fn know_table(tables: &Tables, table: TableId)
     ensures { IsTable table (rows_of tables.now table) }
 {
+    // the rows of a version are of its table, their keys rising
     let _table = tables.version(table).table();
 }
 

@@ -10,6 +10,7 @@ use depot_rows::records::{Change, Record};
 fn know_number(number: u64)
     ensures { number ≤ largest_wide }
 {
+    // its type bounds a number
     let _number = number;
 }
 

@@ -32,5 +32,6 @@ pub fn rows_are_openings(tables: &Tables)
         filter (has_row (KeyRange.OpenedFiles (printed path))) (rows_of tables.now table_ids.Working) ≡ map (working_record d) (openings d path) }
 {
     let version = tables.version(TableId::Working);
+    // the rows of a version are of its table, their keys rising
     let _table = version.table();
 }

@@ -132,6 +132,7 @@ impl<'a> Place<'a> {
         ensures version { self.new.version ≡ self.old.version }
         ensures reached { result ≡ true → is_next_below key.now (option_copied self.new.next) ≡ false }
     {
+        // the rows of a version are of its table, their keys rising
         let _table = self.version.table();
         let passed = has_passed_to(self.passed, self.next, key);
         if !passed {
@@ -147,6 +148,7 @@ impl<'a> Place<'a> {
         ensures version { self.new.version ≡ self.old.version }
         ensures reached { is_next_below key.now (option_copied self.new.next) ≡ false }
     {
+        // the rows of a version are of its table, their keys rising
         let _table = self.version.table();
         let near = self.go_near(key);
         if near {
@@ -161,6 +163,7 @@ impl<'a> Place<'a> {
         ensures version { self.new.version ≡ self.old.version }
         ensures found { IsPlace self.old → option_copied result ≡ row_at key.now self.old.version.now.rows }
     {
+        // the rows of a version are of its table, their keys rising
         let _table = self.version.table();
         self.go_to(key);
         with_key(self.next, key)

@@ -168,5 +168,6 @@ pub(crate) fn rows_are_records(tables: &Tables)
         listed_in asker (filter (has_row (KeyRange.Integrations (printed path))) (rows_of tables.now table_ids.Integed)) ≡ records_in d caller path }
 {
     let version = tables.version(TableId::Integed);
+    // the rows of a version are of its table, their keys rising
     let _table = version.table();
 }

@@ -104,6 +104,7 @@ fn rows_tell_credits(tables: &Tables)
         list_any (is_within n) (span_of_rows (printed s) (filter (has_row (KeyRange.Integrations (printed t))) (rows_of tables.now table_ids.Integed))) ≡ credited d s t n }
 {
     let version = tables.version(TableId::Integed);
+    // the rows of a version are of its table, their keys rising
     let _table = version.table();
 }
 

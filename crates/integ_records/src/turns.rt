@@ -77,6 +77,7 @@ fn pay(deeds: &mut Deeds, taking: Taking, owing: &Owing) -> Result<(), AllocErro
 fn get(deeds: &mut Deeds, owing: &Owing, rev: u32) -> Result<(), AllocError>
     ensures { OnOk result (Adds deeds.old deeds.new (deeds_of.Got (model.held_of (owing_of owing.now)) rev ∷ [])) }
 {
+    // the bytes of a path are one
     let _path = owing.path.as_bytes();
     let file = held(&owing.client, &owing.path)?;
     deeds.got(file, rev)?;
@@ -87,6 +88,7 @@ fn get(deeds: &mut Deeds, owing: &Owing, rev: u32) -> Result<(), AllocError>
 fn shut(deeds: &mut Deeds, owing: &Owing) -> Result<(), AllocError>
     ensures { OnOk result (Adds deeds.old deeds.new (deeds_of.Shut (model.held_of (owing_of owing.now)) ∷ [])) }
 {
+    // the bytes of a path are one
     let _path = owing.path.as_bytes();
     let file = held(&owing.client, &owing.path)?;
     deeds.shut(file)?;
@@ -97,6 +99,7 @@ fn shut(deeds: &mut Deeds, owing: &Owing) -> Result<(), AllocError>
 fn open_anew(deeds: &mut Deeds, opening: &Opening) -> Result<(), AllocError>
     ensures { OnOk result (Adds deeds.old deeds.new (deeds_of.Open (opening_of_deed opening.now) ∷ [])) }
 {
+    // the bytes of a path are one
     let _path = opening.path.as_bytes();
     let copy = own_opening(opening)?;
     deeds.open(copy)?;

@@ -105,6 +105,7 @@ fn rows_tell_files(tables: &Tables)
         paths_in_turn (Listing.OpenedBy client) (rows_of tables.now table_ids.Working) beginnings ≡ filter (has_one beginnings) (opened_anywhere d) }
 {
     let version = tables.version(TableId::Working);
+    // the rows of a version are of its table, their keys rising
     let _table = version.table();
 }
 

@@ -65,6 +65,7 @@ impl FileList for Listing {
 
     fn has(&self, alloc: Global, tables: &Tables, file: &DepotPath) -> Result<bool, AllocError> {
         let version = tables.version(self.table());
+        // the rows of a version are of its table, their keys rising
         let _table = version.table();
         // the bytes of a path are one
         let _bytes = file.as_bytes();
@@ -129,6 +130,7 @@ pub(crate) fn looked_up(
         filter test paths ≡ filter test (listed listing.now (rows_of tables.now (listing_table listing.now)))) }
 {
     let version = tables.version(listing.table());
+    // the rows of a version are of its table, their keys rising
     let _table = version.table();
     let files = spelled_files(alloc, asker, pattern)?;
     let paths = listed_among(alloc, tables, listing, files)?;

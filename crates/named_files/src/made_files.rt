@@ -37,6 +37,7 @@ fn rows_tell_made(tables: &Tables)
         flat_map path_revised (filter (is_of_change n) (rows_of tables.now table_ids.Rev)) ≡ files_of_change d n }
 {
     let version = tables.version(TableId::Rev);
+    // the rows of a version are of its table, their keys rising
     let _table = version.table();
 }
 
@@ -52,6 +53,7 @@ fn add_made_below(
         filter (has_beginning beginning.now) (flat_map path_revised (filter (is_of_change change) (rows_of tables.now table_ids.Rev)))) }
 {
     let version = tables.version(TableId::Rev);
+    // the rows of a version are of its table, their keys rising
     let _in_order = version.table();
     let first = Listing::Submitted.first_key(alloc, beginning)?;
     for row in version.of_change_from(change, &first) {

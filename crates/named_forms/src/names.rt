@@ -78,6 +78,7 @@ pub fn names_with(
         names ≡ filter (λ name. begins_with name start.now) (keys_of (spec_name kind) d)) }
 {
     let version = tables.version(TableId::Domain);
+    // the rows of a version are of its table, their keys rising
     let _table = version.table();
     let first = first_key(alloc, word, start)?;
     let names = leading_names(alloc, word, start, version.from_key(&first))?;
@@ -95,6 +96,7 @@ pub fn fix_names(
         names ≡ filter (λ name. same (drop 10 name) change.now) (keys_of (spec_name FixForm) d)) }
 {
     let version = tables.version(TableId::Domain);
+    // the rows of a version are of its table, their keys rising
     let _table = version.table();
     let mut names = Sequence::new(alloc);
     for row in version.fixes_of(change) {

@@ -49,6 +49,7 @@ pub fn openings_of(
     ensures { IfOk result (λ openings. (d : List Deed) → IsSound d → HasRows (rows_of tables.now) d table_ids.Working → map opening_of_deed openings ≡ opened_in d client.now change) }
 {
     let version = tables.version(TableId::Working);
+    // the rows of a version are of its table, their keys rising
     let _in_order = version.table();
     let own = Text::from_bytes(alloc, client.as_bytes())?;
     let mut openings = Sequence::new(alloc);

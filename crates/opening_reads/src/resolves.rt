@@ -30,6 +30,7 @@ pub fn rows_tell_resolves(tables: &Tables)
         filter (has_row (ranges.FileResolves o.client (printed o.path))) (rows_of tables.now table_ids.Resolve) ≡ map resolve_record (resolves_of d o) }
 {
     let version = tables.version(TableId::Resolve);
+    // the rows of a version are of its table, their keys rising
     let _table = version.table();
 }
 

@@ -22,5 +22,6 @@ pub fn runs_follow_one_another<H: Doors, D: Disk, C: Clock>(clock: &C)
     ensures next { (journal archive next_journal next_archive : D) → AreOfHistories D.says journal archive → AreNext D.says journal archive next_journal next_archive → AreOfHistories D.says next_journal next_archive }
     ensures begins { (journal archive : D) → AreOfHistories D.says journal archive → AreOfHistory D.says journal archive }
 {
+    // the clauses alone speak of it
     let _clock = clock;
 }

@@ -65,6 +65,7 @@ impl<N: Marking> Marks<N> {
     pub fn parties_are_of_run(&self)
         ensures { All (IsMarkOf N.marks) self.now.list }
     {
+        // what is touched of it opens its invariant
         let _places = self.seat.places();
     }
 

@@ -67,6 +67,7 @@ pub fn replicas_reply_for_their_last_pull<D: Disk, C: Clock>(clock: &C)
         IsMaster D.says past start places depot c → IsTold D.says depot.archive bytes → IsAlong past start places (C.says.may_give clock.now) party script old c counts texts →
         IsTurned D.says depot old new result → IsAlong past start places (C.says.may_give clock.now) party script new c (counts ++ length places ∷ []) (texts ++ reply_text result (length texts + 1) ∷ []) }
 {
+    // the clauses alone speak of it
     let _clock = clock;
 }
 

@@ -59,6 +59,7 @@ pub fn rows_in<'a>(
     ensures { IfOk result (λ walk. walk ≡ filter (has_row range.now) (version_of tables.now (range_table range.now)).rows) }
 {
     let version = tables.version(range.table());
+    // the rows of a version are of its table, their keys rising
     let _in_order = version.table();
     let first = range.first_key(alloc)?;
     Ok(RangeWalk {

@@ -49,6 +49,7 @@ fn rows_have_counters(tables: &Tables)
         counters_in (filter (has_row ranges.Counters) (rows_of tables.now table_ids.Counter)) ≡ counters_of_depot d }
 {
     let version = tables.version(TableId::Counter);
+    // the rows of a version are of its table, their keys rising
     let _table = version.table();
 }
 

@@ -129,8 +129,10 @@ fn rows_name_forms(tables: &Tables, kind: SpecKind)
     ensures { (d : List Deed) → HasRows (rows_of tables.now) d table_ids.Domain →
         names_in (filter (has_row (ranges.Forms (word_of_kind (kind_of kind)))) (rows_of tables.now table_ids.Domain)) ≡ keys_of (spec_name (kind_of kind)) d }
 {
+    // the word of a kind is the model's
     let _kind = kind_word(kind);
     let version = tables.version(TableId::Domain);
+    // the rows of a version are of its table, their keys rising
     let _table = version.table();
 }
 

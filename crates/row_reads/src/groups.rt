@@ -48,6 +48,7 @@ fn rows_list_users(tables: &Tables)
         users_in (filter (has_row (ranges.GroupUsers group)) (rows_of tables.now table_ids.Group)) ≡ by_name (users d group) }
 {
     let version = tables.version(TableId::Group);
+    // the rows of a version are of its table, their keys rising
     let _table = version.table();
 }
 

@@ -22,6 +22,7 @@ fn rows_spell_lines(tables: &Tables)
     ensures { (d : List Deed) → IsSound d → HasRows (rows_of tables.now) d table_ids.Protect → protects_told (rows_of tables.now table_ids.Protect) ≡ protects_in d }
 {
     let version = tables.version(TableId::Protect);
+    // the rows of a version are of its table, their keys rising
     let _table = version.table();
 }
 
@@ -40,6 +41,7 @@ fn rows_keep_lines(tables: &Tables)
     ensures { (d : List Deed) → IsSound d → HasRows (rows_of tables.now) d table_ids.Protect → texts_in (rows_of tables.now table_ids.Protect) ≡ map kept_line (guard_lines d) }
 {
     let version = tables.version(TableId::Protect);
+    // the rows of a version are of its table, their keys rising
     let _table = version.table();
 }
 

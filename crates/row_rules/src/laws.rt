@@ -13,5 +13,6 @@ use depot_rows::tables::Tables;
 pub fn rows_of_depots_keep_rules(tables: &Tables)
     ensures { (d : List Deed) → Stand (rows_of tables.now) d → KeepRules (stored tables.now) }
 {
+    // the clauses alone speak of it
     let _tables = tables;
 }

@@ -26,6 +26,7 @@ fn is_in_order(tables: &Tables, table: TableId)
     ensures rising { IsRising (version_of tables.now table).rows }
 {
     let version = tables.version(table);
+    // the rows of a version are of its table, their keys rising
     let _table = version.table();
 }
 

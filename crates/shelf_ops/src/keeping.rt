@@ -173,6 +173,7 @@ fn rows_tell_kept(tables: &Tables)
         filter (λ path. is_some (model.kept d n path)) (files_in_rows (beginning n) (rows_of tables.now table_ids.Domain)) ≡ model.kept_paths d n }
 {
     let version = tables.version(TableId::Domain);
+    // the rows of a version are of its table, their keys rising
     let _table = version.table();
 }
 

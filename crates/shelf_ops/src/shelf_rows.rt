@@ -110,6 +110,7 @@ pub(crate) fn rows_in<'a>(
     ensures { IfOk result (λ walk. walk ≡ filter (is_shelf_row start.now) (rows_of tables.now table_ids.Domain)) }
 {
     let version = tables.version(TableId::Domain);
+    // the rows of a version are of its table, their keys rising
     let _in_order = version.table();
     let first = first_key(alloc, start)?;
     Ok(ShelfWalk {

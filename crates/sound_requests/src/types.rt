@@ -9,16 +9,20 @@ use depot_rows::model::{Command, Request};
 fn know_names(request: &Request)
     ensures { IsTrue (are_named request.now) }
 {
+    // the bytes of a name are one
     let _user = request.caller.user.as_bytes();
     let _client = request.caller.client.as_bytes();
     match &request.command {
         Ok(Command::CounterSet { name, .. }) => {
+            // the bytes of a name are one
             let _name = name.as_bytes();
         }
         Ok(Command::CounterDelete { name }) => {
+            // the bytes of a name are one
             let _name = name.as_bytes();
         }
         Ok(Command::Tag { label, .. }) => {
+            // the bytes of a name are one
             let _label = label.as_bytes();
         }
         _ => {}
