@@ -7,7 +7,7 @@ use crate::step::Step;
 use deed_list::Deeds;
 use depot_rows::model::Row;
 use depot_rows::paths::{DepotPath, Name, Sequence};
-use depot_rows::{Deed, Held, How, Opening, Owing};
+use depot_rows::{Deed, Held, Opening, Owing};
 use std::alloc::{AllocError, Global};
 
 /// The list of one item.
@@ -114,21 +114,6 @@ impl Step {
     {
         let mut deeds = Deeds::new(alloc);
         let made = deeds.owe(owing);
-        done(alloc, deeds, made, row)
-    }
-
-    /// A client paid the resolve of a file from another one.
-    pub fn pays(
-        alloc: Global,
-        held: Held,
-        from: DepotPath,
-        how: How,
-        row: Row,
-    ) -> Result<Step, AllocError>
-        ensures { IfOk result (λ step. step ≡ does (Deed.Paid held from how ∷ []) row) }
-    {
-        let mut deeds = Deeds::new(alloc);
-        let made = deeds.paid(held, from, how);
         done(alloc, deeds, made, row)
     }
 }
