@@ -6,7 +6,7 @@ use Rattle.depot_path.specs.declared.fault.PathFault.TheVariants.{Memory}
 use Rattle.depot_path.specs.declared.revision.RevSpec.{RevSpec}
 use Rattle.depot_path.specs.declared.revision.Wanted.{Wanted}
 use Rattle.std.proofs.Common.{ℕ, List, cond, Ok, refl}
-use Rattle.std.specs.Prelude.{◌&&◌, not}
+use Rattle.std.specs.Prelude.{not}
 use Rattle.std.proofs.lemmas.Bool.{and_parts}
 use Rattle.depot_path.specs.Bytes.{is_among}
 use Rattle.depot_path.specs.Name.{is_name, name_of}

@@ -1,6 +1,6 @@
 -- The entries of a sound depot have content exactly where their actions are live.
-use Rattle.std.proofs.Common.{◌≡◌, ℕ, zero, suc, Bool, true, false, List, [], ◌∷◌, ◌++◌, Some, refl, IsTrue}
-use Rattle.std.specs.Prelude.{◌&&◌, map, slice_get, if◌then◌else◌}
+use Rattle.std.proofs.Common.{◌≡◌, ℕ, zero, suc, Bool, true, false, List, [], ◌∷◌, ◌++◌, Some, IsTrue}
+use Rattle.std.specs.Prelude.{map, slice_get, if◌then◌else◌}
 use Rattle.std.specs.List.{AllByRecursion, list_all, filter}
 use Rattle.std.proofs.lemmas.Bool.{and_parts}
 use Rattle.depot_rows.specs.depot_path.Bytes.{same}

@@ -43,11 +43,6 @@ module _ (a b c : Option (List ℕ)) (s t u : Taken) (r q : List ℕ) where
     most = n.most;
   }
 
--- as much is there as was
-pub moved_length : (a b : Option (List ℕ)) (s t : Taken) (r : List ℕ) (m : Moves a b s t r) → t.place + length t.held ≡ s.place + length s.held + length m.came
-moved_length a b s t r m =
-    omega (arith, m.place, ap (λ (x : List ℕ). length x) m.bytes, length-append s.held m.came, length-append r t.held)
-
 -- a fault that has risen since
 pub risen_before : (first before after : ℕ) → first ≤ before → HasRisen before after → HasRisen first after
 risen_before first before after le risen = omega arith
@@ -116,11 +111,6 @@ module _ (a b : Option (List ℕ)) (s t u : Taken) (line piece new : List ℕ) (
 pub bytes_move : (a b : Option (List ℕ)) (s t u : Taken) (bytes new : List ℕ) (n : ℕ) → Moves a b s t bytes → new ≡ bytes ++ take n t.held → u.held ≡ drop n t.held → u.place ≡ t.place + length (take n t.held) → u.place + length u.held ≤ 67108864 → Moves a b s u new
 bytes_move a b s t u bytes new n m is held place most =
     rw is (moves_then a b b s t u bytes (take n t.held) m (moves_held b t u (take n t.held) (sym (take-append-drop n t.held) ∙ ap (λ (x : List ℕ). take n t.held ++ x) (sym held)) place most))
-
--- fewer bytes than wanted were held
-pub none_held : (bytes new held left : List ℕ) (n count : ℕ) → count ≡ n + length bytes → new ≡ bytes ++ take n held → left ≡ drop n held → (length new ≡ count → ⊥) → left ≡ []
-none_held bytes new held left n count whole is e differs =
-    e ∙ drop_all n held (omega (arith, whole, differs, ap (λ (x : List ℕ). length x) is, length-append bytes (take n held), length-take n held))
 
 pub moves_on : (a b c : Option (List ℕ)) (s t u : Taken) (r : List ℕ) → Moves a b s t r → Moves b c t u [] → Moves a c s u r
 moves_on a b c s t u r m n = let both : Moves a c s u (r ++ []) = moves_then a b c s t u r [] m n in rw append-nil at both

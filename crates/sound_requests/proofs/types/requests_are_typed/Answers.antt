@@ -1,5 +1,3 @@
-use Rattle.std.proofs.Common.{◌≡◌, Bool, true}
-use Rattle.std.specs.Prelude.{◌&&◌}
 use Rattle.std.proofs.lemmas.Bool.{and_from}
 use Rattle.sound_requests.proofs.types.requests_are_typed.Goals as goal
 
