@@ -1,8 +1,9 @@
 //! Runs cases over the depot server in memory, and compares what it answers with what is expected.
 //!
-//! The words of the command line name files of cases, whose lines `data/README.md` tells. The answers that the cases of a file `NAME.cases` are to have
-//! stand in `NAME.expected`. Where the server answers just so, a line says how many lines were compared; else it names the first line that differs, shows
-//! both and the program ends with status 1. Where there is no such file the answers themselves are printed.
+//! The words of the command line name files of cases, whose lines `data/README.md` tells. The answers that the cases of
+//! a file `NAME.cases` are to have stand in `NAME.expected`. Where the server answers just so, a line says how many
+//! lines were compared; else it names the first line that differs, shows both and the program ends with status 1. Where
+//! there is no such file the answers themselves are printed.
 #![tactic(auto)]
 
 use case_files::{CaseGate, Disks, Ran, Server, Setting, Sites, answer_files};

@@ -41,9 +41,10 @@ fn is_named(
     Ok(named)
 }
 
-/// Those of some files that an argument names and that the caller may list, in their order. Where `mapped_only` holds, an argument in client syntax
-/// names the files that the client's view puts at a fitting path; else those that the client shows at one, at the revisions for which the argument asks.
-/// The asker is the caller's, and one for all its arguments. The one error is want of memory.
+/// Those of some files that an argument names and that the caller may list, in their order. Where `mapped_only` holds,
+/// an argument in client syntax names the files that the client's view puts at a fitting path; else those that the
+/// client shows at one, at the revisions for which the argument asks. The asker is the caller's, and one for all its
+/// arguments. The one error is want of memory.
 pub fn named(
     alloc: Global,
     tables: &Tables,

@@ -98,7 +98,8 @@ impl Answers {
         Ok(())
     }
 
-    /// Adds what a run gave out whose order its threads choose: the lines of the order in rising order of their bytes, and the others behind them.
+    /// Adds what a run gave out whose order its threads choose: the lines of the order in rising order of their bytes,
+    /// and the others behind them.
     fn add_unordered(&mut self, out: &[u8]) -> Result<(), AllocError> {
         let mut places = lines_of(self.alloc, out, true)?;
         places.sort_unstable();
@@ -115,7 +116,8 @@ impl Answers {
         }
     }
 
-    /// Adds the end of a run with these words and this gate: what `out` got, the status, what each party got, and what the gate tells.
+    /// Adds the end of a run with these words and this gate: what `out` got, the status, what each party got, and what
+    /// the gate tells.
     pub fn add_run(&mut self, words: &str, ran: &Ran, gate: &CaseGate) -> Result<(), AllocError> {
         self.add_line("$ ", words, "")?;
         let words = words.strip_prefix("node ").unwrap_or(words);
@@ -184,7 +186,8 @@ impl Answers {
         Ok(())
     }
 
-    /// Adds to the last line how a run with these words ended: its status, the places that are faults, the faults of scripts, and each party's codes.
+    /// Adds to the last line how a run with these words ended: its status, the places that are faults, the faults of
+    /// scripts, and each party's codes.
     pub fn add_end(&mut self, words: &str, ran: &Ran) -> Result<(), AllocError> {
         self.text.append(b"status ")?;
         self.text

@@ -46,7 +46,8 @@ impl Disks {
         }
     }
 
-    /// Copies, by the names of their disks, in which these calls behind their making fail, and the moment of the journal's disk at which they are made.
+    /// Copies, by the names of their disks, in which these calls behind their making fail, and the moment of the
+    /// journal's disk at which they are made.
     fn failing_copies(
         &mut self,
         alloc: Global,
@@ -69,7 +70,8 @@ impl Disks {
         }
     }
 
-    /// What a stop at a moment of the journal's disk leaves, with the archive's disk as it is now. The open bytes of each are those of a text and then 0.
+    /// What a stop at a moment of the journal's disk leaves, with the archive's disk as it is now. The open bytes of
+    /// each are those of a text and then 0.
     fn stopped(&self, moment: u64, pick: &[u8]) -> Result<Disks, AllocError> {
         let journal = self.journal.image(moment, pick)?;
         match self.archive.image(u64::MAX, pick) {
@@ -101,7 +103,8 @@ impl Sites {
         }
     }
 
-    /// Copies in which these calls behind their making fail, and the moment of the depot's journal's disk at which they are made.
+    /// Copies in which these calls behind their making fail, and the moment of the depot's journal's disk at which they
+    /// are made.
     pub fn failing_copies(
         &mut self,
         alloc: Global,
@@ -125,7 +128,8 @@ impl Sites {
         }
     }
 
-    /// What a stop at a moment of the depot's journal's disk leaves, with the other disks as they are now. The open bytes of each are those of a text and then 0.
+    /// What a stop at a moment of the depot's journal's disk leaves, with the other disks as they are now. The open
+    /// bytes of each are those of a text and then 0.
     pub fn stopped(&self, moment: u64, pick: &[u8]) -> Result<Sites, AllocError> {
         let depot = self.depot.stopped(moment, pick)?;
         match self.node.stopped(u64::MAX, pick) {

@@ -65,7 +65,8 @@ fn expected_of<R: Files + AllocGlobal>(rt: &R, name: &str) -> io::Result<Option<
     }
 }
 
-/// Prints how the answers of the cases of a file compare with those that are expected, and returns whether they are the same.
+/// Prints how the answers of the cases of a file compare with those that are expected, and returns whether they are the
+/// same.
 fn compare<R: Print>(rt: &R, name: &str, answered: &[u8], expected: &[u8]) -> io::Result<bool> {
     match first_difference(answered, expected) {
         None => {

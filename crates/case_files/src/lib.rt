@@ -1,7 +1,7 @@
 //! Files of cases of a server, and the answers that are expected of them.
 //!
-//! `data/README.md` of the program `acceptance` tells what the lines of a file of cases ask and how they are answered. The disks, the scripts and what
-//! the parties get stay in memory. Which server runs is left open ([`Server`]).
+//! `data/README.md` of the program `acceptance` tells what the lines of a file of cases ask and how they are answered.
+//! The disks, the scripts and what the parties get stay in memory. Which server runs is left open ([`Server`]).
 #![tactic(auto)]
 
 mod answers;

@@ -60,7 +60,8 @@ pub struct Ran {
 
 /// A server that cases run.
 pub trait Server {
-    /// Runs it by a runtime in a setting over disks, with a gate. The only error is want of memory for what is told of the run.
+    /// Runs it by a runtime in a setting over disks, with a gate. The only error is want of memory for what is told of
+    /// the run.
     fn run<R: Threads + Wait + Sync>(
         &self,
         rt: &R,
@@ -125,7 +126,8 @@ impl<'a> Setting<'a> {
     }
 }
 
-/// Runs the server over disks with the words of a text by which it prints the rows of a depot: that of the depot's disks, or of the node's.
+/// Runs the server over disks with the words of a text by which it prints the rows of a depot: that of the depot's
+/// disks, or of the node's.
 pub fn dump<R: Threads + Wait + Sync, S: Server>(
     rt: &R,
     server: &S,

@@ -134,7 +134,8 @@ pub enum Step<'a> {
     Every(Every<'a>),
     /// Tell what a stop leaves at every moment of a run with these words.
     Stops(&'a str),
-    /// Tell what a stop leaves of the node behind each run with these words in which one call of a disk after another fails.
+    /// Tell what a stop leaves of the node behind each run with these words in which one call of a disk after another
+    /// fails.
     NodeStops {
         /// All words of the line behind the first.
         line: &'a str,
@@ -360,7 +361,8 @@ pub fn fail<'a>(text: &'a str) -> Result<Step<'a>, CaseFault> {
     Ok(Step::Fail(Failure::new(object, first, extent)))
 }
 
-/// What stops leave: at each moment of a run, or, where the first word names a disk, behind runs in which one call of it after another fails.
+/// What stops leave: at each moment of a run, or, where the first word names a disk, behind runs in which one call of
+/// it after another fails.
 pub fn stops<'a>(text: &'a str) -> Step<'a> {
     let (first, words) = text.split_once(' ').unwrap_or((text, ""));
     match disk_named(first) {

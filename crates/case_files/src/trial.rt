@@ -52,7 +52,8 @@ fn told_alone(alloc: Global, out: &[u8]) -> Result<Text, AllocError> {
     Ok(told)
 }
 
-/// To which of the depots that are kept disks open: its number, from 0, or `?` where it is none of them. Of disks that don't open it is the line that says so.
+/// To which of the depots that are kept disks open: its number, from 0, or `?` where it is none of them. Of disks that
+/// don't open it is the line that says so.
 fn told(alloc: Global, kept: &[Text], dumped: &Ran) -> Result<Text, AllocError> {
     let rows = dumped.out.given();
     if dumped.status != 0 {
@@ -94,7 +95,8 @@ impl Trial {
         self.begin.saturating_add(calls)
     }
 
-    /// What a run with the words of a text, which print the rows of a depot, gives out over the disks that a stop at a moment of the journal's disk leaves.
+    /// What a run with the words of a text, which print the rows of a depot, gives out over the disks that a stop at a
+    /// moment of the journal's disk leaves.
     fn dumped<R: Threads + Wait + Sync, S: Server>(
         &self,
         rt: &R,
@@ -108,7 +110,8 @@ impl Trial {
         dump(rt, server, alloc, left, words)
     }
 
-    /// To what the disks open after a stop at a moment of the journal's disk, with open bytes of this one, and the archive's disk as it is at the end.
+    /// To what the disks open after a stop at a moment of the journal's disk, with open bytes of this one, and the
+    /// archive's disk as it is at the end.
     fn opened<R: Threads + Wait + Sync, S: Server>(
         &self,
         rt: &R,
@@ -182,7 +185,8 @@ impl Trial {
         Ok(())
     }
 
-    /// Adds what a stop now leaves of the node, for each of the bytes that the open ones may be, where that isn't among what was told before.
+    /// Adds what a stop now leaves of the node, for each of the bytes that the open ones may be, where that isn't among
+    /// what was told before.
     pub fn tell_node<R: Threads + Wait + Sync, S: Server>(
         &self,
         rt: &R,

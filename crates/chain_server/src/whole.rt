@@ -52,8 +52,9 @@ pub enum WholeEnded<D, S, K> {
     },
 }
 
-/// Does all that the program does over a depot and a node that follows it. With the first word `follow` the node follows the depot to its end; with the first
-/// word `node` the words behind it are run over the node's disks, as a depot's; all other words are run over the depot's.
+/// Does all that the program does over a depot and a node that follows it. With the first word `follow` the node
+/// follows the depot to its end; with the first word `node` the words behind it are run over the node's disks, as a
+/// depot's; all other words are run over the depot's.
 pub fn whole_top<
     R: Threads + Wait + Sync,
     H: Doors,

@@ -79,8 +79,8 @@ fn drop_change(alloc: Global, change: u32) -> Result<Step, AllocError>
     Ok(step)
 }
 
-/// `change -d N`: a pending change of the caller's user and client, without opened files, is deleted, from the tables of changes and opened files
-/// alone.
+/// `change -d N`: a pending change of the caller's user and client, without opened files, is deleted, from the tables
+/// of changes and opened files alone.
 pub fn change_delete(
     alloc: Global,
     tables: &Tables,

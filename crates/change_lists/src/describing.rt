@@ -216,8 +216,9 @@ fn describe_found(
     }
 }
 
-/// `describe -s N`: a change, and of a submitted one the revisions that it made of files that the caller may list; one without such is as one that
-/// isn't there. It reads the tables of changes and revisions alone, and of the revisions those that the change made.
+/// `describe -s N`: a change, and of a submitted one the revisions that it made of files that the caller may list; one
+/// without such is as one that isn't there. It reads the tables of changes and revisions alone, and of the revisions
+/// those that the change made.
 pub fn describe(
     alloc: Global,
     tables: &Tables,

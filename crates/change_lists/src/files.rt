@@ -61,7 +61,8 @@ fn rows_tell_made(tables: &Tables)
     let _table = version.table();
 }
 
-/// The rows of the revisions that a change made of files that the asker may list, in the order of their paths, from those that it made alone.
+/// The rows of the revisions that a change made of files that the asker may list, in the order of their paths, from
+/// those that it made alone.
 pub(crate) fn landed_rows<'a>(
     alloc: Global,
     tables: &'a Tables,
@@ -81,7 +82,8 @@ pub(crate) fn landed_rows<'a>(
     Ok(rows)
 }
 
-/// Whether the asker may list a file of which a change made a revision. It reads the revisions that the change made until there is such a one.
+/// Whether the asker may list a file of which a change made a revision. It reads the revisions that the change made
+/// until there is such a one.
 pub(crate) fn may_list_change(
     alloc: Global,
     tables: &Tables,

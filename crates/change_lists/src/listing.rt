@@ -191,7 +191,8 @@ fn is_listed(
     Ok(listed)
 }
 
-/// The row of the change of a number, where it is there and the filter passes it, and it is pending or the asker may list one of its files.
+/// The row of the change of a number, where it is there and the filter passes it, and it is pending or the asker may
+/// list one of its files.
 fn tell_listed(
     alloc: Global,
     tables: &Tables,
@@ -213,8 +214,9 @@ fn tell_listed(
     Ok(None)
 }
 
-/// Adds the rows of the changes that the filter passes, of those that are pending or of which the asker may list a file, the greatest number first,
-/// and at most so many. It looks up each number from the greatest down until there are enough.
+/// Adds the rows of the changes that the filter passes, of those that are pending or of which the asker may list a
+/// file, the greatest number first, and at most so many. It looks up each number from the greatest down until there are
+/// enough.
 fn tell_newest(
     alloc: Global,
     tables: &Tables,
@@ -271,12 +273,13 @@ fn changes_told(
     Ok(rows)
 }
 
-/// `changes`: the changes of a status, a user and a client, where they are given, and of these those that made a revision that an argument selects, if
-/// there are arguments; a submitted one where the caller may list one of its files. The greatest number is the first, and there are at most `most`. An
-/// argument that names no file is refused. It reads the tables of forms, have lists, labels, changes and revisions alone. With
-/// arguments it reads of the revisions those of the files that they name, sorts the numbers of their changes, and looks these up from the greatest
-/// down, until there are enough. Else it looks up each number from the greatest down, and of a submitted change that passes the revisions that it made,
-/// until there is one of a file that the caller may list.
+/// `changes`: the changes of a status, a user and a client, where they are given, and of these those that made a
+/// revision that an argument selects, if there are arguments; a submitted one where the caller may list one of its
+/// files. The greatest number is the first, and there are at most `most`. An argument that names no file is refused. It
+/// reads the tables of forms, have lists, labels, changes and revisions alone. With arguments it reads of the revisions
+/// those of the files that they name, sorts the numbers of their changes, and looks these up from the greatest down,
+/// until there are enough. Else it looks up each number from the greatest down, and of a submitted change that passes
+/// the revisions that it made, until there is one of a file that the caller may list.
 pub fn changes(
     alloc: Global,
     tables: &Tables,

@@ -186,8 +186,8 @@ fn push_argument(
     Ok(())
 }
 
-/// Adds the refusals of the arguments that name no file, and gives the numbers of the changes that made the revisions that the others select, each
-/// file by the first argument that names it.
+/// Adds the refusals of the arguments that name no file, and gives the numbers of the changes that made the revisions
+/// that the others select, each file by the first argument that names it.
 pub(crate) fn changes_made(
     alloc: Global,
     tables: &Tables,

@@ -374,10 +374,11 @@ fn save(
     }
 }
 
-/// `change -i`: the change that the input spells is saved as pending, under the number that it names or the next one for `new`, and the files that it
-/// lists are moved into it. It is refused first where it can't be read, then that it has no number, then the first line of its files that is no path,
-/// then that its change isn't pending or is another's, then the first file that isn't opened, and last by the limits of its text of 65,536 bytes, its
-/// number and its 10,000 files. It reads the tables of counters, changes and opened files alone.
+/// `change -i`: the change that the input spells is saved as pending, under the number that it names or the next one
+/// for `new`, and the files that it lists are moved into it. It is refused first where it can't be read, then that it
+/// has no number, then the first line of its files that is no path, then that its change isn't pending or is another's,
+/// then the first file that isn't opened, and last by the limits of its text of 65,536 bytes, its number and its 10,000
+/// files. It reads the tables of counters, changes and opened files alone.
 pub fn change_save(
     alloc: Global,
     tables: &Tables,

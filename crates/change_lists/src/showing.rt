@@ -114,7 +114,8 @@ fn show_new(
     Ok(step)
 }
 
-/// The opened files of a pending change, by its row; none where it is submitted. A row whose client is no name has none.
+/// The opened files of a pending change, by its row; none where it is submitted. A row whose client is no name has
+/// none.
 fn openings_in(
     alloc: Global,
     tables: &Tables,
@@ -185,8 +186,8 @@ fn show_found(
     }
 }
 
-/// `change -o [N]`: a change with the opened files that the caller may list; without a number the form for a new one, with those of the default
-/// change. It reads the tables of changes and opened files alone.
+/// `change -o [N]`: a change with the opened files that the caller may list; without a number the form for a new one,
+/// with those of the default change. It reads the tables of changes and opened files alone.
 pub fn change_show(
     alloc: Global,
     tables: &Tables,

@@ -55,7 +55,8 @@ pub fn write_generation<D: Disk>(
     // At every moment each image holds the rows before, or is of the next generation and holds those of the text.
     ensures any_moment { (was : Committed) (rows after : AllRows) → Stands D.says journal.old was nothing → HasAllRows was rows → IsCheckpointOf (was.generation + 1) after text.now →
         LeavesOnly D.says (disk_of journal.old) (disk_of journal.new) (HoldsEither was rows text.now after) }
-    // So at every moment the files stand for the depot before, or for that depot with the new number of its generation; afterwards for the latter.
+    // So at every moment the files stand for the depot before, or for that depot with the new number of its generation;
+    // afterwards for the latter.
     ensures opens { (was : Committed) (rows : AllRows) (d : List Deed) (archive : Files) → Stands D.says journal.old was nothing → IsOfDepot was rows d archive → IsNext was rows d text.now →
         LeavesOnly D.says (disk_of journal.old) (disk_of journal.new) (StandsForEither (was.generation + 1) d archive) }
     ensures opened { (was : Committed) (rows : AllRows) (d : List Deed) (archive : Files) → Stands D.says journal.old was nothing → IsOfDepot was rows d archive → IsNext was rows d text.now →

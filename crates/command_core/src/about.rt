@@ -1,4 +1,5 @@
-//! What is known of each form of command: its family, the right that it needs, whether it needs a client, and its arguments.
+//! What is known of each form of command: its family, the right that it needs, whether it needs a client, and its
+//! arguments.
 
 ghost use Rattle.std.specs.Prelude.{◌≡◌};
 ghost use Rattle.depot_rows.specs.depot_model.About.{about};

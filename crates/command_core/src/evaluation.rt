@@ -71,7 +71,8 @@ fn files_step(
     Ok(step)
 }
 
-/// What a command that is no submit does where no refusal holds that is common to all. Rights and view are made for a command over files alone.
+/// What a command that is no submit does where no refusal holds that is common to all. Rights and view are made for a
+/// command over files alone.
 fn own_step(
     alloc: Global,
     tables: &Tables,
@@ -122,7 +123,8 @@ fn storing_step(
     Ok(step)
 }
 
-/// The step of a command: the first refusal that holds, or else its own step. The caller's groups are read once, for both.
+/// The step of a command: the first refusal that holds, or else its own step. The caller's groups are read once, for
+/// both.
 fn command_step(
     alloc: Global,
     tables: &Tables,

@@ -145,8 +145,8 @@ fn lacks_client(
     Ok(!saved)
 }
 
-/// The row of the first of the refusals that are common to all commands, and that holds: the caller, who is given with the groups, has the right
-/// nowhere, the client isn't saved, or a name behind `@` is unknown.
+/// The row of the first of the refusals that are common to all commands, and that holds: the caller, who is given with
+/// the groups, has the right nowhere, the client isn't saved, or a name behind `@` is unknown.
 fn common_refusal(
     alloc: Global,
     tables: &Tables,
@@ -219,7 +219,8 @@ fn held_refusal(alloc: Global, tables: &Tables, change: u32) -> Result<Option<Ro
     }
 }
 
-/// The row of the last of the refusals: a change with shelved files is neither submitted nor deleted, one that fixes jobs isn't deleted.
+/// The row of the last of the refusals: a change with shelved files is neither submitted nor deleted, one that fixes
+/// jobs isn't deleted.
 fn last_refusal(
     alloc: Global,
     tables: &Tables,
@@ -241,7 +242,8 @@ fn last_refusal(
     }
 }
 
-/// The row of the first refusal that holds before a command's own step: one that is common to all commands, or one of the last.
+/// The row of the first refusal that holds before a command's own step: one that is common to all commands, or one of
+/// the last.
 pub(crate) fn first_refusal(
     alloc: Global,
     tables: &Tables,

@@ -15,7 +15,8 @@ use reply_rows::{Step, usage_row};
 use spec_ops::checkpoint;
 use std::alloc::{AllocError, Global};
 
-/// What a command of the server itself does where no refusal holds that is common to all. A session can't pull: only a replica does.
+/// What a command of the server itself does where no refusal holds that is common to all. A session can't pull: only a
+/// replica does.
 pub(crate) fn server_step(
     alloc: Global,
     tables: &Tables,

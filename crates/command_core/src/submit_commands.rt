@@ -19,7 +19,8 @@ use reply_rows::Step;
 use std::alloc::{AllocError, Global};
 use submit_core::{submit_change, submit_default};
 
-/// What a submit does for its asker where no refusal holds before it: it stores the contents of its files behind those of the archive.
+/// What a submit does for its asker where no refusal holds before it: it stores the contents of its files behind those
+/// of the archive.
 pub(crate) fn submit_step(
     alloc: Global,
     tables: &Tables,

@@ -19,7 +19,8 @@ use named_files::Asker;
 use reply_rows::Step;
 use std::alloc::{AllocError, Global};
 
-/// What a command of have lists, labels and integration does for its asker where no refusal holds that is common to all.
+/// What a command of have lists, labels and integration does for its asker where no refusal holds that is common to
+/// all.
 pub(crate) fn syncing_step(
     alloc: Global,
     tables: &Tables,

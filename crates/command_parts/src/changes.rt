@@ -54,8 +54,8 @@ fn refusal_of(
     }
 }
 
-/// The row that refuses a change that isn't pending, or not of the caller's user and client, from the table of changes alone. The one error is
-/// want of memory.
+/// The row that refuses a change that isn't pending, or not of the caller's user and client, from the table of changes
+/// alone. The one error is want of memory.
 pub fn change_refusal(
     alloc: Global,
     tables: &Tables,

@@ -1,4 +1,5 @@
-//! What commands share that name a change or save a form: the refusal of the change, and the step of a form that can't be read.
+//! What commands share that name a change or save a form: the refusal of the change, and the step of a form that can't
+//! be read.
 //!
 //! The one error of each call is want of memory.
 #![tactic(auto)]

@@ -1,8 +1,8 @@
 //! The command that the words of a line spell.
 //!
-//! A line is `p4`, a command's word, options and arguments. The table in `table.rt` has the forms of every command; a form's options choose it,
-//! and its arguments are read from the left. The first word from the left that has a fault gives the answer (Command-Line Reference,
-//! "Commands").
+//! A line is `p4`, a command's word, options and arguments. The table in `table.rt` has the forms of every command; a
+//! form's options choose it, and its arguments are read from the left. The first word from the left that has a fault
+//! gives the answer (Command-Line Reference, "Commands").
 #![tactic(auto, using(depot_path::proofs::Answers::right, depot_path::proofs::Answers::wanting, depot_path::proofs::Answers::after, depot_path::proofs::Answers::fails))]
 
 mod arguments;
@@ -96,11 +96,12 @@ fn command_of_line(alloc: Global, words: &[Text], has_input: bool) -> Result<Com
     }
 }
 
-/// Reads the command that a line spells; `has_input` says whether an input block stands before it. Otherwise it answers why the words are none:
-/// `UnknownCommand` for a first word other than `p4` or a command that isn't in the table, `BadPath` and `BadRevision` for an argument, which
-/// is given as it stands in the line, `BadNumber` for a number, and `BadUsage` with the command's word (empty for a line without one) for
-/// everything else. Of several faults it answers that of the first word from the left; an option that is wanting and an input block that
-/// the form doesn't take, or that is wanting, count behind the options and before the arguments.
+/// Reads the command that a line spells; `has_input` says whether an input block stands before it. Otherwise it answers
+/// why the words are none: `UnknownCommand` for a first word other than `p4` or a command that isn't in the table,
+/// `BadPath` and `BadRevision` for an argument, which is given as it stands in the line, `BadNumber` for a number, and
+/// `BadUsage` with the command's word (empty for a line without one) for everything else. Of several faults it answers
+/// that of the first word from the left; an option that is wanting and an input block that the form doesn't take, or
+/// that is wanting, count behind the options and before the arguments.
 pub fn read_command(alloc: Global, line: &Line, has_input: bool) -> Result<Command, WordFault>
     ensures { Answers WordFault.Memory result (spec.command_of line.now has_input) }
 {

@@ -1,5 +1,5 @@
-//! Deeds, the first first. Each kind is added by a method of its own, so that no command owns a deed: what a deed is made of is small,
-//! the deed itself is not, and dropping it on the way out of a command costs the prover dear.
+//! Deeds, the first first. Each kind is added by a method of its own, so that no command owns a deed: what a deed is
+//! made of is small, the deed itself is not, and dropping it on the way out of a command costs the prover dear.
 #![tactic(auto)]
 
 ghost use Rattle.std.specs.Prelude.{◌≡◌, ◌++◌, ◌∷◌, [], OnOk, OnErr};
@@ -20,7 +20,8 @@ pub fn append<T: Drop>(list: &mut Sequence<T>, more: Sequence<T>) -> Result<(), 
     Ok(())
 }
 
-/// Deeds, the first first. The one error of each method is want of memory; where one deed is added, the deeds then stay as they were.
+/// Deeds, the first first. The one error of each method is want of memory; where one deed is added, the deeds then stay
+/// as they were.
 pub struct Deeds {
     list: Sequence<Deed>,
 }

@@ -43,7 +43,8 @@ fn checkpoint_changes(alloc: Global, tables: &Tables) -> Result<Vec<Change>, All
     Ok(changes)
 }
 
-/// The text of the checkpoint with which the generation behind this one begins, with the rows of these tables and its number in the counter `journal`.
+/// The text of the checkpoint with which the generation behind this one begins, with the rows of these tables and its
+/// number in the counter `journal`.
 fn next_text(alloc: Global, tables: &Tables, generation: u32) -> Result<Text, AllocError>
     requires { generation < 4095 }
     ensures { IfOk result (λ text. (was : Committed) (d : List Deed) → HasAllRows was (rows_of tables.now) → Stand (rows_of tables.now) d →
@@ -57,9 +58,9 @@ fn next_text(alloc: Global, tables: &Tables, generation: u32) -> Result<Text, Al
     Ok(text)
 }
 
-/// Takes a checkpoint of files that are open, with nothing in doubt, whose rows are those of the tables; no rights are asked. The next
-/// generation begins with these rows, its number in the counter `journal`. Answers that number, or None at generation 4,095, where nothing is
-/// done. All memory is had before the first call of the disk.
+/// Takes a checkpoint of files that are open, with nothing in doubt, whose rows are those of the tables; no rights are
+/// asked. The next generation begins with these rows, its number in the counter `journal`. Answers that number, or None
+/// at generation 4,095, where nothing is done. All memory is had before the first call of the disk.
 pub fn take_checkpoint<D: Disk>(
     alloc: Global,
     tables: &Tables,
@@ -74,7 +75,8 @@ pub fn take_checkpoint<D: Disk>(
     // At every moment they stand for the depot before or after these.
     ensures any_moment { (was : Committed) (d : List Deed) (archive : Files) → Stands D.says journal.old was nothing → IsOfDepot was (rows_of tables.now) d archive →
         LeavesOnly D.says (disk_of journal.old) (disk_of journal.new) (StandsBeforeOrAfter d archive) }
-    // The journal that was the newest is then one of those before, and the next generation has the rows after these deeds.
+    // The journal that was the newest is then one of those before, and the next generation has the rows after these
+    // deeds.
     ensures begun { (was : Committed) (d : List Deed) (older : List (List (List ℕ))) → CanBegin D.says journal.old was (rows_of tables.now) d older →
         IfOk result (λ begun. IfSome begun (λ number. HasBegun D.says journal.new was (rows_of tables.now) d older)) }
     ensures begins { (was : Committed) (d : List Deed) (older : List (List (List ℕ))) → CanBegin D.says journal.old was (rows_of tables.now) d older →

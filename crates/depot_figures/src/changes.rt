@@ -58,8 +58,8 @@ fn last_change(alloc: Global, tables: &Tables) -> Result<u32, AllocError>
     Ok(top.min(MOST_CHANGE) as u32)
 }
 
-/// The number of submitted changes (Command-Line Reference, "p4 changes"), from the tables of counters and of changes. It looks up each number up to
-/// the greatest. The one error is want of memory.
+/// The number of submitted changes (Command-Line Reference, "p4 changes"), from the tables of counters and of changes.
+/// It looks up each number up to the greatest. The one error is want of memory.
 pub fn landed_changes(alloc: Global, tables: &Tables) -> Result<u64, AllocError>
     ensures { IfOk result (λ count. (d : List Deed) → IsSound d → HasRows (rows_of tables.now) d table_ids.Counter → HasRows (rows_of tables.now) d table_ids.Change → count ≡ spec.changes_in d) }
 {

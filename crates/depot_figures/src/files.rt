@@ -101,7 +101,8 @@ fn live_of(alloc: Global, tables: &Tables, paths: &[DepotPath]) -> Result<u64, A
     Ok(count)
 }
 
-/// The figures of all submitted files (Command-Line Reference, "p4 files", "p4 sizes"), from the table of revisions. The one error is want of memory.
+/// The figures of all submitted files (Command-Line Reference, "p4 files", "p4 sizes"), from the table of revisions.
+/// The one error is want of memory.
 pub fn file_figures(alloc: Global, tables: &Tables) -> Result<FileFigures, AllocError>
     ensures live { IfOk result (λ figures. (d : List Deed) → IsSound d → HasRows (rows_of tables.now) d table_ids.Rev → figures.live ≡ spec.live_files_in d) }
     ensures bytes { IfOk result (λ figures. (d : List Deed) → IsSound d → HasRows (rows_of tables.now) d table_ids.Rev → figures.bytes ≡ spec.bytes_in d) }

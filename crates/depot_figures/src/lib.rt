@@ -1,4 +1,5 @@
-//! The figures of a depot: how many changes were submitted, how many files are live, and how many bytes of content their revisions have.
+//! The figures of a depot: how many changes were submitted, how many files are live, and how many bytes of content
+//! their revisions have.
 #![tactic(auto)]
 
 mod changes;

@@ -21,11 +21,11 @@ pub enum ChainCause {
     NodeShut(OpenFault),
     /// The node's journal departs from the upstream's there.
     Apart(Departure),
-    /// At this place, in bytes from 0, stands the first of the upstream's journal that can't be taken, or the first content that isn't there or hasn't the
-    /// digest of its revision.
+    /// At this place, in bytes from 0, stands the first of the upstream's journal that can't be taken, or the first
+    /// content that isn't there or hasn't the digest of its revision.
     Bad(u64),
-    /// The node has all changes that the upstream's journals tell, and other rows than the upstream: an old journal of it is gone or damaged, or it was made
-    /// from rows.
+    /// The node has all changes that the upstream's journals tell, and other rows than the upstream: an old journal of
+    /// it is gone or damaged, or it was made from rows.
     Incomplete,
     /// The outside has failed.
     Fault,
@@ -36,8 +36,8 @@ pub enum ChainCause {
 /// What a following leaves.
 #[derive(Drop)]
 pub struct ChainEnded<D> {
-    /// The status with which the program ends: 0 done, 1 usage, 2 files that aren't there, damaged, apart, bad or incomplete, 4 a fault of the outside, 5 want of
-    /// memory.
+    /// The status with which the program ends: 0 done, 1 usage, 2 files that aren't there, damaged, apart, bad or
+    /// incomplete, 4 a fault of the outside, 5 want of memory.
     pub status: u8,
     /// Why it ends.
     pub cause: ChainCause,

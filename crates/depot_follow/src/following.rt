@@ -28,7 +28,8 @@ pub(crate) struct Figures {
     pub verified: u64,
 }
 
-/// Pulls once. Where nothing more comes, which is so over no upstream that was opened and has more, the end is that of want of memory.
+/// Pulls once. Where nothing more comes, which is so over no upstream that was opened and has more, the end is that of
+/// want of memory.
 fn pull_more<D: Disk>(alloc: Global, up: &mut Node<D>, node: &mut Node<D>) -> Result<(), ChainCause>
     requires can { CanFollow D.says node.old }
     ensures can { CanFollow D.says node.new }

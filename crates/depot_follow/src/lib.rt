@@ -1,6 +1,7 @@
 //! A node, with files of its own, that follows a depot.
 //!
-//! [`chain_top`] lets a node follow a depot to its end: it copies what the node lacks, checks each content, and tells how far the node is.
+//! [`chain_top`] lets a node follow a depot to its end: it copies what the node lacks, checks each content, and tells
+//! how far the node is.
 #![tactic(auto)]
 
 mod ended;

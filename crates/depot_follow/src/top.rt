@@ -86,9 +86,9 @@ fn follow_up<D: Disk, K: Sink>(
     }
 }
 
-/// Lets a node follow an upstream to its end: opens the files of both, makes the node's where there are none, and compares their journals; then it pulls
-/// until the node has all, checks each content, and tells the generation, the changes and the contents. The first word is `follow`, and none is to stand
-/// behind it.
+/// Lets a node follow an upstream to its end: opens the files of both, makes the node's where there are none, and
+/// compares their journals; then it pulls until the node has all, checks each content, and tells the generation, the
+/// changes and the contents. The first word is `follow`, and none is to stand behind it.
 pub fn chain_top<D: Disk, K: Sink>(
     alloc: Global,
     words: &[&str],

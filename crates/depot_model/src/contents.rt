@@ -60,7 +60,8 @@ fn newest(lines: &[FileLine], before: usize) -> Option<&Text>
     lines[count - 1].bytes.as_ref()
 }
 
-/// What a script says of the files of its client workspace, so that the contents behind each of its lines are known. A line costs one look-up of its file.
+/// What a script says of the files of its client workspace, so that the contents behind each of its lines are known. A
+/// line costs one look-up of its file.
 pub struct ScriptContents {
     lines: usize,
     files: IndexMap<ClientPath, Sequence<FileLine>>,
@@ -161,7 +162,8 @@ impl ScriptContents {
     }
 }
 
-/// The contents of a session's files that are in force behind some lines of its script: a view on what the script says, which all commands share.
+/// The contents of a session's files that are in force behind some lines of its script: a view on what the script says,
+/// which all commands share.
 pub struct Contents {
     script: Arc<ScriptContents, Global>,
     lines: usize,

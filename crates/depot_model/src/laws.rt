@@ -25,8 +25,8 @@ pub fn counters_keep_depots_sound()
     ensures { (d : List Deed) (name : List ℕ) (value : Option ℕ) → IsSound d → is_name name ≡ true → is_free name ≡ true → IsSound (Count name value ∷ d) }
 {}
 
-/// The greatest number of a change never falls, no landed change has a greater one, and a pending change, or the default one, lands under
-/// a number above those of all that landed before.
+/// The greatest number of a change never falls, no landed change has a greater one, and a pending change, or the
+/// default one, lands under a number above those of all that landed before.
 pub fn numbers_rise()
     ensures never_falls { (d : List Deed) (deed : Deed) → top d ≤ top (deed ∷ d) }
     ensures landed { (d : List Deed) (l : Landing) → Contains (landings d) l → l.change ≤ top d }
@@ -39,7 +39,8 @@ pub fn same_rows_tell_same_counters()
     ensures { (d e : List Deed) (name : List ℕ) → SameRows d e → counter_show d name ≡ counter_show e name }
 {}
 
-/// Where a protections table has lines, one more at its end for another user, group or host changes no right of the caller.
+/// Where a protections table has lines, one more at its end for another user, group or host changes no right of the
+/// caller.
 pub fn later_lines_of_others_change_nothing()
     ensures at_a_path { (d : List Deed) (lines : List (List ℕ)) (line : List ℕ) (read : List ProtectLine) (other : ProtectLine)
         (caller : Caller) (path : List ℕ) (need : ℕ) →

@@ -2,8 +2,8 @@
 
 use db_records::TableId;
 
-/// What a command may lock. A command goes through its set in this order: the tables, as `TableId` has them, then the archive, then the
-/// journal.
+/// What a command may lock. A command goes through its set in this order: the tables, as `TableId` has them, then the
+/// archive, then the journal.
 #[derive(Clone, Copy)]
 pub enum LockId {
     /// A table.

@@ -30,8 +30,8 @@ fn with_digit(most: u64, number: u64, digit: u8) -> Option<u64>
     if number <= most { Some(number) } else { None }
 }
 
-/// The number that digits spell, where it is at most the limit; an empty text's is 0. Each byte counts by its distance above `0`, also one
-/// that is no digit: whether they are digits is for the caller to know.
+/// The number that digits spell, where it is at most the limit; an empty text's is 0. Each byte counts by its distance
+/// above `0`, also one that is no digit: whether they are digits is for the caller to know.
 pub fn value_up_to(most: u64, digits: &[u8]) -> Option<u64>
     ensures value { result ≡ up_to most (number_of digits.now) }
     ensures within { IfSome result (λ number. number ≤ most) }

@@ -61,8 +61,8 @@ fn push_printed(text: &mut Vec<u8>, byte: u8) -> Result<(), AllocError>
     }
 }
 
-/// The bytes as they are printed, with escapes, whether or not they are a path (Command-Line Reference, File Specifications). It fails only where
-/// memory is wanted.
+/// The bytes as they are printed, with escapes, whether or not they are a path (Command-Line Reference, File
+/// Specifications). It fails only where memory is wanted.
 pub fn print_bytes(alloc: Global, path: &[u8]) -> Result<Text, AllocError>
     ensures { IfOk result (λ text. text ≡ printed path.now) }
 {

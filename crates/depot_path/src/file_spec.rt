@@ -62,8 +62,8 @@ fn read_marked(
 }
 
 impl FileSpec {
-    /// Reads a file specification: a pattern up to the first `#` or `@`, and revisions from there on. The faults of the pattern come first,
-    /// then `BadRevision`, `BadRange` and `BadDate` in this order over the whole of the revisions.
+    /// Reads a file specification: a pattern up to the first `#` or `@`, and revisions from there on. The faults of the
+    /// pattern come first, then `BadRevision`, `BadRange` and `BadDate` in this order over the whole of the revisions.
     pub fn read(alloc: Global, text: &[u8]) -> Result<Self, PathFault>
         ensures { Answers PathFault.Memory result (file_spec_of text.now) }
     {

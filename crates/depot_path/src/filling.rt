@@ -17,8 +17,8 @@ fn is_specifier(piece: Piece) -> bool
     !matches!(piece, Piece::Byte(_))
 }
 
-/// The column of no pieces, which fit the end of the text alone. A column says for each place in a text whether some pieces fit the text from
-/// there on.
+/// The column of no pieces, which fit the end of the text alone. A column says for each place in a text whether some
+/// pieces fit the text from there on.
 fn begin_column(alloc: Global, text: &[u8]) -> Result<Vec<bool>, AllocError>
     ensures { IfOk result (λ column. IsColumn [] text.now column.items) }
 {
@@ -138,8 +138,8 @@ fn literal_length(pieces: &[Piece]) -> usize
     count
 }
 
-/// The texts for which the specifiers stand in a text, if it fits. The cost is at most the product of the two lengths, and what doesn't fit
-/// takes no memory.
+/// The texts for which the specifiers stand in a text, if it fits. The cost is at most the product of the two lengths,
+/// and what doesn't fit takes no memory.
 pub(crate) fn texts_for(
     alloc: Global,
     pieces: &[Piece],

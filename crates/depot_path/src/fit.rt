@@ -9,8 +9,8 @@ use crate::piece::Piece;
 /// The most pieces of a pattern, and one more.
 const ROW: usize = 1025;
 
-/// Whether the pieces from one on fit the text from a byte on, given whether they fit what follows the byte (`here`), and whether the pieces
-/// after that one fit what follows the byte (`below`) and the text from the byte on (`next`).
+/// Whether the pieces from one on fit the text from a byte on, given whether they fit what follows the byte (`here`),
+/// and whether the pieces after that one fit what follows the byte (`below`) and the text from the byte on (`next`).
 pub(crate) fn with_byte(piece: Piece, byte: u8, here: bool, below: bool, next: bool) -> bool
     ensures { result ≡ byte_step piece byte here below next }
 {
@@ -60,8 +60,8 @@ fn add_byte(pieces: &[Piece], row: &mut [bool], byte: u8)
     }
 }
 
-/// Whether the text fits, from its last byte to its first: a row says for each place in the pattern whether what follows there fits the
-/// part of the text that has been passed.
+/// Whether the text fits, from its last byte to its first: a row says for each place in the pattern whether what
+/// follows there fits the part of the text that has been passed.
 fn fits_by_rows(pieces: &[Piece], text: &[u8]) -> bool
     requires { length pieces.now ≤ 1024 }
     ensures { result ≡ fit_test pieces.now text.now }

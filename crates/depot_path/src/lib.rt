@@ -1,4 +1,5 @@
-//! Texts, names and lists, which the values of every layer are made of; depot paths, the patterns that select them, and file specifications.
+//! Texts, names and lists, which the values of every layer are made of; depot paths, the patterns that select them, and
+//! file specifications.
 //!
 //! Each of these types is seen by contracts as a plain list, so that a definition speaks of bytes
 //! and lists alone, and two values are compared by `≡`.

@@ -19,7 +19,8 @@ use std::marker::Model;
 
 /// The path of a file in a depot, or in a client workspace where its first component is a client's name.
 ///
-/// It is written with escapes and kept without them, and has two or more components and at most 1,024 bytes as it is written.
+/// It is written with escapes and kept without them, and has two or more components and at most 1,024 bytes as it is
+/// written.
 #[derive(Clone)]
 pub struct DepotPath {
     bytes: Text,
@@ -128,8 +129,8 @@ pub fn is_path(bytes: &[u8]) -> bool
 }
 
 impl DepotPath {
-    /// Reads a path as it is written. Of several faults it answers that which stands first in this order: `TooLong`, `NoSlashes`,
-    /// `EmptyPart`, `BadEscape`, `BadByte`, `Dots`.
+    /// Reads a path as it is written. Of several faults it answers that which stands first in this order: `TooLong`,
+    /// `NoSlashes`, `EmptyPart`, `BadEscape`, `BadByte`, `Dots`.
     pub fn read(alloc: Global, text: &[u8]) -> Result<Self, PathFault>
         ensures { Answers PathFault.Memory result (path_of text.now) }
     {

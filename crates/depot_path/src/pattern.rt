@@ -177,8 +177,8 @@ fn literal_bytes(alloc: Global, pieces: &[Piece]) -> Result<Text, AllocError>
 }
 
 impl Pattern {
-    /// Reads a pattern as it is written, with `%%1` to `%%9` where `positional` is true. Of several faults it answers that which stands first
-    /// in this order: `TooLong`, `NoSlashes`, `EmptyPart`, `BadEscape`, `BadByte`, `Dots`.
+    /// Reads a pattern as it is written, with `%%1` to `%%9` where `positional` is true. Of several faults it answers
+    /// that which stands first in this order: `TooLong`, `NoSlashes`, `EmptyPart`, `BadEscape`, `BadByte`, `Dots`.
     pub fn read(alloc: Global, text: &[u8], positional: bool) -> Result<Self, PathFault>
         ensures { Answers PathFault.Memory result (pattern_of positional text.now) }
     {
@@ -198,17 +198,17 @@ impl Pattern {
         self.pieces.as_slice()
     }
 
-    /// Whether the path fits. It takes no memory, and its cost is at most the product of the two lengths; where the pattern begins with
-    /// literal text, a path that differs there is refused at the first byte that differs.
+    /// Whether the path fits. It takes no memory, and its cost is at most the product of the two lengths; where the
+    /// pattern begins with literal text, a path that differs there is refused at the first byte that differs.
     pub fn matches(&self, path: &DepotPath) -> bool
         ensures { result ≡ fits self.now path.now }
     {
         fits(self.pieces.as_slice(), path.as_bytes())
     }
 
-    /// The texts for which the specifiers stand in a text without escapes, in their order; None where it doesn't fit. The leftmost specifier
-    /// takes the shortest text that lets the rest fit. The cost is at most the product of the two lengths. A text that doesn't fit takes no
-    /// memory.
+    /// The texts for which the specifiers stand in a text without escapes, in their order; None where it doesn't fit.
+    /// The leftmost specifier takes the shortest text that lets the rest fit. The cost is at most the product of the
+    /// two lengths. A text that doesn't fit takes no memory.
     pub fn texts(&self, alloc: Global, text: &[u8]) -> Result<Option<Sequence<Text>>, AllocError>
         ensures value { IfOk result (λ found. found ≡ texts self.now text.now) }
         ensures memory { OnErr result (fits self.now text.now ≡ true) }
@@ -216,16 +216,16 @@ impl Pattern {
         texts_for(alloc, self.pieces.as_slice(), text)
     }
 
-    /// The pattern with its specifiers replaced by texts, in order, as bytes without escapes. A specifier for which no text is left stands for
-    /// nothing, and texts beyond the last specifier are left out.
+    /// The pattern with its specifiers replaced by texts, in order, as bytes without escapes. A specifier for which no
+    /// text is left stands for nothing, and texts beyond the last specifier are left out.
     pub fn filled(&self, alloc: Global, texts: &[Text]) -> Result<Text, AllocError>
         ensures { IfOk result (λ text. text ≡ filled self.now texts.now) }
     {
         fill(alloc, self.pieces.as_slice(), texts)
     }
 
-    /// The text with which every path that fits begins as it is printed: what stands before the first specifier. In path order the paths that
-    /// begin so stand together, from this text on.
+    /// The text with which every path that fits begins as it is printed: what stands before the first specifier. In
+    /// path order the paths that begin so stand together, from this text on.
     pub fn beginning(&self, alloc: Global) -> Result<Text, AllocError>
         ensures value { IfOk result (λ text. text ≡ printed (literal self.now)) }
         ensures every { (path : List ℕ) → fits self.now path ≡ true → begins_with (printed path) (printed (literal self.now)) ≡ true }
@@ -235,8 +235,8 @@ impl Pattern {
     }
 }
 
-/// The texts that a pattern's specifiers stand for are exactly those whose lengths come first, compared from the left, and there are some
-/// wherever a text fits.
+/// The texts that a pattern's specifiers stand for are exactly those whose lengths come first, compared from the left,
+/// and there are some wherever a text fits.
 pub fn texts_come_first()
     ensures first { (p : List Piece) (t : List ℕ) (ts : List (List ℕ)) → texts p t ≡ Some ts → AreTexts p t ts }
     ensures only { (p : List Piece) (t : List ℕ) (ts : List (List ℕ)) → AreTexts p t ts → texts p t ≡ Some ts }

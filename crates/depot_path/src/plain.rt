@@ -33,8 +33,8 @@ fn are_plain_components(text: &[u8]) -> bool
     parted && before != b'/'
 }
 
-/// Whether a text is a plain path: of printing ASCII bytes without escapes, no component of which begins with a dot or has two in a
-/// row. Such a text is the path that it spells, and most paths are plain. It takes no memory.
+/// Whether a text is a plain path: of printing ASCII bytes without escapes, no component of which begins with a dot or
+/// has two in a row. Such a text is the path that it spells, and most paths are plain. It takes no memory.
 pub fn is_plain_path(text: &[u8]) -> bool
     ensures value { result ≡ plain_path_test text.now }
     ensures read { IsTrue result → path_of text.now ≡ Ok text.now }

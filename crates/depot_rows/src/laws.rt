@@ -31,8 +31,9 @@ pub fn standing_rows_are_those_of_the_depot()
     ensures { (rows : AllRows) (d : List model.Deed) (table : TableId) → Stand rows d → HasRows rows d table }
 {}
 
-/// A deed does to the rows of each table what it does to the depot: a dropped change needs not to have landed, paths need to be paths, and no other
-/// deed needs anything. That no number is both pending and landed is one of the clauses of a sound depot, and stays so.
+/// A deed does to the rows of each table what it does to the depot: a dropped change needs not to have landed, paths
+/// need to be paths, and no other deed needs anything. That no number is both pending and landed is one of the clauses
+/// of a sound depot, and stays so.
 pub fn deeds_do_to_rows_what_they_do_to_depots()
     ensures least { (table : TableId) (before : Rows) (d : List model.Deed) (done : Deed) (deed : model.Deed) →
         AreRowsIn before d table → IsDeed d done deed → Needs done d → AreRowsIn (effect done before) (deed ∷ d) table }
@@ -59,8 +60,9 @@ pub fn depots_with_the_same_rows_stay_so()
         SameRows d e → NotBoth d → NotBoth e → Follow d dones deeds → SameRows (after d deeds) (after e deeds) }
 {}
 
-/// What commands find of a depot lets their deeds follow it: a change that hasn't landed, that is pending, or whose number is above all others,
-/// isn't submitted; a file whose lock nobody else has may be locked; and the files of a submitted change are paths, each once.
+/// What commands find of a depot lets their deeds follow it: a change that hasn't landed, that is pending, or whose
+/// number is above all others, isn't submitted; a file whose lock nobody else has may be locked; and the files of a
+/// submitted change are paths, each once.
 pub fn deeds_of_commands_may_follow()
     ensures unlanded { (d : List model.Deed) (n : ℕ) → landing d n ≡ None → IsFalse (is_submitted (record_of d (keys.Change n))) }
     ensures pending { (d : List model.Deed) (n : ℕ) → IsSome (pending d n) → IsFalse (is_submitted (record_of d (keys.Change n))) }
@@ -71,8 +73,8 @@ pub fn deeds_of_commands_may_follow()
         IsLanding d l (landing_of d request n text (openings_of d request.caller n)) → AreOfPaths l.entries }
 {}
 
-/// The rows of a depot without the files outside a filter are the rows of the depot without those of these files. That a deed speaks of paths is
-/// one of the clauses of a sound depot.
+/// The rows of a depot without the files outside a filter are the rows of the depot without those of these files. That
+/// a deed speaks of paths is one of the clauses of a sound depot.
 pub fn rows_of_a_cut_depot_are_the_rows_cut()
     ensures { (rules : List FilterRule) (d : List model.Deed) (q : Key) →
         IsTrue (list_all has_paths d) → record_of (cut rules d) q ≡ cut_rows rules (record_of d) q }

@@ -12,8 +12,8 @@ ghost use Rattle.depot_rows.specs.Effects.{Follow};
 ghost use Rattle.depot_facts.specs.Contents.{SameContents};
 
 /// Over two sound depots with the same rows and contents the step of every request is the same: the same deeds, and the
-/// same rows of the reply. Where these deeds may follow the one depot, both have the same rows after them; and after the same deeds both have the
-/// same contents.
+/// same rows of the reply. Where these deeds may follow the one depot, both have the same rows after them; and after
+/// the same deeds both have the same contents.
 pub fn depots_with_the_same_rows_and_contents_answer_alike()
     ensures step { (d e : List Deed) (request : Request) →
         IsSound d → IsSound e → SameRows d e → SameContents d e → step d request ≡ step e request }

@@ -226,7 +226,8 @@ impl<D: Disk> Journal<D> {
             OnOk result ((image : Files) → D.says.may_leave (disk_of self.new) image → HasClosedMark (with_generation was checkpoint.now) image) }
         ensures number { IfOk result (λ n. n ≡ generation_of_journal self.old + 1) }
 
-        // Where the root mark's write wasn't begun, no image of the call is of the next generation; else it is in doubt.
+        // Where the root mark's write wasn't begun, no image of the call is of the next generation; else it is in
+        // doubt.
         ensures err { (was : Committed) → Stands D.says self.old was nothing → IsErr result →
             IsStill D.says self.old self.new was
             ⊎ Stands D.says self.new was (opening checkpoint.now) }

@@ -38,7 +38,8 @@ pub fn make_files<D: Disk>(disk: &mut D) -> Result<(), DiskFault>
     ensures others { OnOk result (Follows SameOthers (D.says.seen disk.old) (D.says.may_leave disk.new)) }
     // A disk that told what it reads still does, whatever is answered.
     ensures told { StillTells (D.says.seen disk.old) (D.says.seen disk.new) }
-    // Whatever is answered, at every moment the other files stay as they were, and the root as well until the rest stands whole.
+    // Whatever is answered, at every moment the other files stay as they were, and the root as well until the rest
+    // stands whole.
     ensures crash { Follows IsBeingMade (D.says.may_leave disk.old) (D.says.may_leave disk.new) }
     ensures any_moment { LeavesOnly D.says disk.old disk.new (After IsBeingMade (D.says.may_leave disk.old)) }
     ensures asked { OnOk result (D.says.calls disk.new ≡ counted 5 (D.says.calls disk.old)) }

@@ -165,7 +165,8 @@ fn moved_block<'a>(
     }
 }
 
-/// The content of a file that was moved: the block of its path, else that of the path that it was moved from, else the source's content.
+/// The content of a file that was moved: the block of its path, else that of the path that it was moved from, else the
+/// source's content.
 fn moved_content<'a>(
     alloc: Global,
     tables: &Tables,
@@ -260,7 +261,8 @@ fn is_moved_in(opening: &Opening) -> bool
     }
 }
 
-/// The content that an opened file is submitted with, from the table of revisions alone. The one error is want of memory.
+/// The content that an opened file is submitted with, from the table of revisions alone. The one error is want of
+/// memory.
 pub fn content_of<'a>(
     alloc: Global,
     tables: &Tables,
@@ -283,7 +285,8 @@ pub fn content_of<'a>(
     Ok(found)
 }
 
-/// Whether an opened file lacks its content (Command-Line Reference, "p4 submit"), from the table of revisions alone. The one error is want of memory.
+/// Whether an opened file lacks its content (Command-Line Reference, "p4 submit"), from the table of revisions alone.
+/// The one error is want of memory.
 pub fn lacks_content(
     alloc: Global,
     tables: &Tables,

@@ -32,8 +32,9 @@ fn has_source_content(alloc: Global, tables: &Tables, opening: &Opening) -> Resu
     Ok(has)
 }
 
-/// The block of the session that gives an opened file its content where its source doesn't, None exactly where no block does or the file is opened for
-/// a deletion (Command-Line Reference, "p4 shelve"), from the table of revisions alone. The one error is want of memory.
+/// The block of the session that gives an opened file its content where its source doesn't, None exactly where no block
+/// does or the file is opened for a deletion (Command-Line Reference, "p4 shelve"), from the table of revisions alone.
+/// The one error is want of memory.
 pub fn block_given<'a>(
     alloc: Global,
     tables: &Tables,

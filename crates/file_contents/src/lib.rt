@@ -1,7 +1,7 @@
 //! Where the contents of opened files come from: from revisions, or from the blocks that a session gives.
 //!
-//! Each call answers for all tables, and reads that of revisions alone, by one look-up for each revision. Where it has the rows of a sound depot, the
-//! call answers what the model says of that depot. The one error is want of memory.
+//! Each call answers for all tables, and reads that of revisions alone, by one look-up for each revision. Where it has
+//! the rows of a sound depot, the call answers what the model says of that depot. The one error is want of memory.
 #![tactic(auto)]
 
 mod content;

@@ -18,7 +18,8 @@ use depot_rows::tables::Tables;
 use row_ranges::{KeyRange, rows_in};
 use std::alloc::{AllocError, Global};
 
-/// Whether a row is of an opening by another client that keeps this one from opening the file, with a type that is exclusive or one that isn't.
+/// Whether a row is of an opening by another client that keeps this one from opening the file, with a type that is
+/// exclusive or one that isn't.
 fn bars(client: &Name, exclusive: bool, row: &WorkingRecord) -> bool
     ensures { result ≡ bars_row client.now exclusive row.now }
 {
@@ -58,8 +59,9 @@ fn first_barring(
     Ok(None)
 }
 
-/// The first other client, by name, that has a file opened where its type or the new one is exclusive, None exactly where there is none
-/// (Command-Line Reference, "File types"), from the table of opened files alone. The one error is want of memory.
+/// The first other client, by name, that has a file opened where its type or the new one is exclusive, None exactly
+/// where there is none (Command-Line Reference, "File types"), from the table of opened files alone. The one error is
+/// want of memory.
 pub fn barred_by(
     alloc: Global,
     tables: &Tables,

@@ -37,8 +37,8 @@ fn as_working<'a>(row: Option<&'a Record>) -> Option<&'a WorkingRecord>
     }
 }
 
-/// The row of a file that a client has opened, None exactly where it hasn't (Command-Line Reference, "p4 opened"), from the table of opened files
-/// alone. The one error is want of memory.
+/// The row of a file that a client has opened, None exactly where it hasn't (Command-Line Reference, "p4 opened"), from
+/// the table of opened files alone. The one error is want of memory.
 pub fn opening_of<'a>(
     alloc: Global,
     tables: &'a Tables,

@@ -15,8 +15,9 @@ use depot_rows::tables::Tables;
 use reply_rows::Step;
 use std::alloc::{AllocError, Global};
 
-/// What a command does with a file that an argument names. It reads the tables alone of which `reads` speaks; where they have the rows of a depot,
-/// it does what the model says of that depot, and its deeds may follow those of the files before. The one error is want of memory.
+/// What a command does with a file that an argument names. It reads the tables alone of which `reads` speaks; where
+/// they have the rows of a depot, it does what the model says of that depot, and its deeds may follow those of the
+/// files before. The one error is want of memory.
 pub trait FileAct {
     /// Whether rows are those of a depot, as far as the command reads them for a file.
     ghost reads: { Self → AllRows → List Deed → Type 0 };
@@ -43,12 +44,12 @@ pub trait FileAct {
     ghost next: { (act : Self) (d e : List Deed) (argument : Argument) (path : List ℕ) → is_later act d e → is_later act d (after e (acts act d argument path).deeds) };
 }
 
-/// What a command does with the files that its arguments name, one after another, where it keeps what it read: it finds the files of a set itself, so
-/// that it may keep what it sees of them, and goes on from what it read for the file before. It reads the tables alone of which `stands` speaks. The one
-/// error is want of memory.
+/// What a command does with the files that its arguments name, one after another, where it keeps what it read: it finds
+/// the files of a set itself, so that it may keep what it sees of them, and goes on from what it read for the file
+/// before. It reads the tables alone of which `stands` speaks. The one error is want of memory.
 pub trait WalkAct<'t, S: FileSet> {
-    /// Whether what it keeps is of a set and an argument, and it has come from a depot, of which these are the rows that it reads, to another one, which
-    /// what was done with files made of it.
+    /// Whether what it keeps is of a set and an argument, and it has come from a depot, of which these are the rows
+    /// that it reads, to another one, which what was done with files made of it.
     ghost stands: { Self → S → Argument → AllRows → List Deed → List Deed → Type 0 };
 
     /// What is done with a file that an argument names.

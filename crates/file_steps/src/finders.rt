@@ -15,9 +15,9 @@ use depot_rows::tables::Tables;
 use reply_rows::Step;
 use std::alloc::{AllocError, Global};
 
-/// Finds the files that arguments without wildcards spell, whether they are there or not, as those of `add` and `where`. Each call is of the tables
-/// alone that the finder reads; where they have the rows of a depot, and the argument spells a path, it gives what the model says of that depot. The
-/// one error is want of memory.
+/// Finds the files that arguments without wildcards spell, whether they are there or not, as those of `add` and
+/// `where`. Each call is of the tables alone that the finder reads; where they have the rows of a depot, and the
+/// argument spells a path, it gives what the model says of that depot. The one error is want of memory.
 pub trait FileFinder {
     /// Whether rows are those of a depot, as far as the finder reads them.
     ghost reads: { Self → AllRows → List Deed → Type 0 };

@@ -37,7 +37,8 @@ fn changed_path(deed: &Deed) -> Option<&DepotPath>
     }
 }
 
-/// Where a path goes among paths of which the last is the first in path order, None where it is there. It looks at them from the last on.
+/// Where a path goes among paths of which the last is the first in path order, None where it is there. It looks at them
+/// from the last on.
 fn place_for(paths: &[DepotPath], path: &DepotPath) -> Option<usize>
     ensures within { IfSome result (λ at. at ≤ length paths.now) }
     ensures some { IfSome result (λ at. reverse (insert paths.now at path.now) ≡ path_inserted path.now (reverse paths.now)) }

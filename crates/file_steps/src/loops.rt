@@ -170,8 +170,8 @@ fn add_argument<'t, S: FileSet, A: WalkAct<'t, S>>(
     Ok(())
 }
 
-/// What a command does with the files that its arguments name, where it goes on from file to file: by argument, and then by path, each file once. The one
-/// error is want of memory.
+/// What a command does with the files that its arguments name, where it goes on from file to file: by argument, and
+/// then by path, each file once. The one error is want of memory.
 pub fn walk_over<'t, S: FileSet, A: WalkAct<'t, S>>(
     alloc: Global,
     tables: &'t Tables,
@@ -191,8 +191,8 @@ pub fn walk_over<'t, S: FileSet, A: WalkAct<'t, S>>(
     Ok(step)
 }
 
-/// What a command does with the files that its arguments name: by argument, and then by path, each file once (Command-Line Reference, "File
-/// specifications"). The one error is want of memory.
+/// What a command does with the files that its arguments name: by argument, and then by path, each file once
+/// (Command-Line Reference, "File specifications"). The one error is want of memory.
 pub fn over<S: FileSet, A: FileAct>(
     alloc: Global,
     tables: &Tables,
@@ -247,8 +247,9 @@ fn walk_over_everything<'t, S: FileSet, A: WalkAct<'t, S>>(
     Ok(step)
 }
 
-/// What a command does with the files that its arguments name, where it goes on from file to file: by argument, and then by path, each file once.
-/// Without arguments these are `//...`, and no row is given where there is no file. The one error is want of memory.
+/// What a command does with the files that its arguments name, where it goes on from file to file: by argument, and
+/// then by path, each file once. Without arguments these are `//...`, and no row is given where there is no file. The
+/// one error is want of memory.
 pub fn walk_over_all<'t, S: FileSet, A: WalkAct<'t, S>>(
     alloc: Global,
     tables: &'t Tables,

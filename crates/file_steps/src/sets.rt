@@ -14,8 +14,8 @@ use depot_rows::tables::Tables;
 use reply_rows::Step;
 use std::alloc::{AllocError, Global};
 
-/// Files of which arguments name some, as those that a client has. Each call is of the tables alone that the set reads; where they have the rows
-/// of a depot, it gives what the model says of that depot. The one error is want of memory.
+/// Files of which arguments name some, as those that a client has. Each call is of the tables alone that the set reads;
+/// where they have the rows of a depot, it gives what the model says of that depot. The one error is want of memory.
 pub trait FileSet {
     /// Whether rows are those of a depot, as far as the set reads them.
     ghost reads: { Self → AllRows → List Deed → Type 0 };

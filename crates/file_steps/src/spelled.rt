@@ -99,8 +99,8 @@ fn add_argument<F: FileFinder, A: FileAct>(
     Ok(())
 }
 
-/// What a command does with the files that its arguments spell, each of them a path: by argument, each file once (Command-Line Reference, "File
-/// specifications"). The one error is want of memory.
+/// What a command does with the files that its arguments spell, each of them a path: by argument, each file once
+/// (Command-Line Reference, "File specifications"). The one error is want of memory.
 pub fn over_found<F: FileFinder, A: FileAct>(
     alloc: Global,
     tables: &Tables,

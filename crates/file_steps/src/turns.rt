@@ -12,8 +12,8 @@ use depot_rows::tables::Tables;
 use reply_rows::Step;
 use std::alloc::{AllocError, Global};
 
-/// What a command does with files one after another, where it keeps what it did with those before. The tables stay those of the depot before
-/// all of them. The one error is want of memory.
+/// What a command does with files one after another, where it keeps what it did with those before. The tables stay
+/// those of the depot before all of them. The one error is want of memory.
 pub trait TurnAct {
     /// Whether it has come from a depot, of which these are the rows that it reads, to another one.
     ghost stands: { Self → AllRows → List Deed → List Deed → Type 0 };
@@ -45,7 +45,8 @@ fn add_turn<A: TurnAct>(
     Ok(())
 }
 
-/// What a command does with files one after another, each over the depot with the deeds of those before it. The one error is want of memory.
+/// What a command does with files one after another, each over the depot with the deeds of those before it. The one
+/// error is want of memory.
 pub fn in_turn<A: TurnAct>(
     alloc: Global,
     tables: &Tables,

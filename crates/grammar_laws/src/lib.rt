@@ -1,4 +1,5 @@
-//! Laws above the grammars of scripts and of commands: what is printed is read as what it was printed from, and what is read can be printed.
+//! Laws above the grammars of scripts and of commands: what is printed is read as what it was printed from, and what is
+//! read can be printed.
 #![tactic(auto)]
 
 mod laws;

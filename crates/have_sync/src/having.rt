@@ -76,8 +76,8 @@ impl<'a> FileAct for Having<'a> {
     ghost next = { λ having d e argument path later. tt };
 }
 
-/// `have [FILE...]`: the files of the client's have list, with their revisions and their places in the workspace, by the asker's rights and view and
-/// from the table of have lists alone. The one error is want of memory.
+/// `have [FILE...]`: the files of the client's have list, with their revisions and their places in the workspace, by
+/// the asker's rights and view and from the table of have lists alone. The one error is want of memory.
 pub fn have(
     alloc: Global,
     tables: &Tables,

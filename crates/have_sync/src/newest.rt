@@ -1,4 +1,5 @@
-//! The revision of a file that is chosen, and what a client has of it, by what was seen as the files were found, and from the place of the file before.
+//! The revision of a file that is chosen, and what a client has of it, by what was seen as the files were found, and
+//! from the place of the file before.
 
 ghost use Rattle.std.specs.Prelude.{◌≡◌, List, false, filter, IfOk, Ok};
 ghost use Rattle.std.specs.Option.{option_copied};
@@ -46,7 +47,8 @@ pub(crate) fn places_of(alloc: Global, tables: &Tables) -> Places<'_>
 }
 
 impl<'a> Places<'a> {
-    /// Among the files of a set, in their order, at least those that an argument names, as [`SeenRows::find`] finds them.
+    /// Among the files of a set, in their order, at least those that an argument names, as [`SeenRows::find`] finds
+    /// them.
     pub(crate) fn find(
         &mut self,
         alloc: Global,
@@ -79,7 +81,8 @@ impl<'a> Places<'a> {
         Ok(found)
     }
 
-    /// The revision of a file that a client has, 0 where it has none. Where the files come in path order, its have list is passed in one walk.
+    /// The revision of a file that a client has, 0 where it has none. Where the files come in path order, its have list
+    /// is passed in one walk.
     pub(crate) fn have(
         &mut self,
         alloc: Global,

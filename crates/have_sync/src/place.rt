@@ -1,5 +1,5 @@
-//! Look-ups in a table that go on from the row of the last one. Where the keys that are looked up rise, as those of files in path order, the rows are
-//! passed once, in a walk.
+//! Look-ups in a table that go on from the row of the last one. Where the keys that are looked up rise, as those of
+//! files in path order, the rows are passed once, in a walk.
 
 ghost use Rattle.std.specs.Prelude.{◌≡◌, ◌++◌, [], None, false, true};
 ghost use Rattle.std.specs.Option.{option_copied, option_to_list};

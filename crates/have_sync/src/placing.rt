@@ -178,8 +178,8 @@ impl<'a> FileAct for Placing<'a> {
     ghost next = { λ placing d e argument path later. tt };
 }
 
-/// `where PATH...`: where the client's view puts files, each argument being a path, by the asker's rights and view alone. The one error is want of
-/// memory.
+/// `where PATH...`: where the client's view puts files, each argument being a path, by the asker's rights and view
+/// alone. The one error is want of memory.
 pub fn where_is(
     alloc: Global,
     tables: &Tables,

@@ -38,7 +38,8 @@ fn with_size(row: RowBuilder, size: Option<u64>) -> Result<RowBuilder, AllocErro
     }
 }
 
-/// The row of a file with its place in the client workspace, a revision, what was done, and the size of its content in bytes.
+/// The row of a file with its place in the client workspace, a revision, what was done, and the size of its content in
+/// bytes.
 fn sync_row(
     alloc: Global,
     path: &DepotPath,

@@ -209,7 +209,8 @@ fn is_shown(
     Ok(shown)
 }
 
-/// The revision that the client is to have where one is chosen: that one, or none where the file is deleted there or isn't shown.
+/// The revision that the client is to have where one is chosen: that one, or none where the file is deleted there or
+/// isn't shown.
 fn wanted_of<'t>(
     alloc: Global,
     tables: &Tables,
@@ -364,10 +365,11 @@ fn shown_alone(alloc: Global, shows: bool, step: Step) -> Step
     }
 }
 
-/// `sync [-f] [-n] [FILE...]`: the client is to have the files at the revisions that the arguments choose, and files that it has opened get a
-/// resolve that is owed; with `-n` it is shown alone. It reads the tables of forms, have lists, labels, resolves, opened files, changes and revisions,
-/// and of each file that is named its rows alone: where no revision is asked for, the walk over the rows of revisions that finds the files gives their
-/// newest ones too, and the have list is passed beside it. The one error is want of memory.
+/// `sync [-f] [-n] [FILE...]`: the client is to have the files at the revisions that the arguments choose, and files
+/// that it has opened get a resolve that is owed; with `-n` it is shown alone. It reads the tables of forms, have
+/// lists, labels, resolves, opened files, changes and revisions, and of each file that is named its rows alone: where
+/// no revision is asked for, the walk over the rows of revisions that finds the files gives their newest ones too, and
+/// the have list is passed beside it. The one error is want of memory.
 pub fn sync(
     alloc: Global,
     tables: &Tables,

@@ -30,8 +30,9 @@ use reply_rows::Step;
 use revision_reads::stored_choice;
 use std::alloc::{AllocError, Global};
 
-/// What a command tells of a file and the revision that an argument chooses of it. It reads the tables alone of which `reads` speaks; where they have
-/// the rows of a depot, it tells what the model tells of that depot. The one error is want of memory.
+/// What a command tells of a file and the revision that an argument chooses of it. It reads the tables alone of which
+/// `reads` speaks; where they have the rows of a depot, it tells what the model tells of that depot. The one error is
+/// want of memory.
 pub(crate) trait ChoiceAct {
     /// Whether rows are those of a depot, as far as the command reads them for a file of a caller.
     ghost reads: { Self → Asking → AllRows → List Deed → Type 0 };
@@ -60,7 +61,8 @@ struct ChosenRows<'t> {
     rows: Vec<&'t RevRecord>,
 }
 
-/// Adds a file and the row of the revision that an argument chooses of it, if the argument names the file and chooses one.
+/// Adds a file and the row of the revision that an argument chooses of it, if the argument names the file and chooses
+/// one.
 fn add_chosen<'t>(
     alloc: Global,
     tables: &'t Tables,
@@ -94,7 +96,8 @@ fn add_chosen<'t>(
     }
 }
 
-/// Those of some files that an argument names and of which it chooses a revision, in their order, and the rows of these.
+/// Those of some files that an argument names and of which it chooses a revision, in their order, and the rows of
+/// these.
 fn chosen_among<'t>(
     alloc: Global,
     tables: &'t Tables,
@@ -118,8 +121,8 @@ fn chosen_among<'t>(
     Ok(found)
 }
 
-/// Among the files of a list, in their order, at least those of which an argument chooses a revision; where it asks for none, with the rows of newest
-/// revisions from the same walk.
+/// Among the files of a list, in their order, at least those of which an argument chooses a revision; where it asks for
+/// none, with the rows of newest revisions from the same walk.
 fn candidates_of<'t>(
     alloc: Global,
     tables: &'t Tables,
@@ -167,7 +170,8 @@ fn chosen_by<'t>(
     Ok(found)
 }
 
-/// The row of the revision that is chosen of a file, if there is one: by what was seen behind the files before, or else it is looked up.
+/// The row of the revision that is chosen of a file, if there is one: by what was seen behind the files before, or else
+/// it is looked up.
 fn choice<'t>(
     alloc: Global,
     tables: &'t Tables,

@@ -23,7 +23,8 @@ use row_ranges::{KeyRange, rows_in};
 use std::alloc::{AllocError, Global};
 use std::collections::BTreeMap;
 
-/// Integration records into a file, by the revision into which each is, those of a revision in the order in which they were added.
+/// Integration records into a file, by the revision into which each is, those of a revision in the order in which they
+/// were added.
 #[derive(Drop)]
 pub(crate) struct Credits<'a> {
     pub by_revision: BTreeMap<u32, Vec<&'a IntegedRecord>>,
@@ -161,8 +162,8 @@ pub(crate) fn credits_of<'a>(
     Ok(credits)
 }
 
-/// The records of a file in its range are those of the depot (Command-Line Reference, "p4 integrated"), from the table of integration records
-/// alone.
+/// The records of a file in its range are those of the depot (Command-Line Reference, "p4 integrated"), from the table
+/// of integration records alone.
 pub(crate) fn rows_are_records(tables: &Tables)
     ensures { (d : List Deed) (caller : Asking) (asker : Asks) (path : List ℕ) → IsAsker d caller asker → HasRows (rows_of tables.now) d table_ids.Integed →
         listed_in asker (filter (has_row (KeyRange.Integrations (printed path))) (rows_of tables.now table_ids.Integed)) ≡ records_in d caller path }

@@ -135,8 +135,9 @@ fn rows_for(
     Ok(rows)
 }
 
-/// `dirs DIR...`: the directories of files that aren't deleted, or of the places at which the client shows them, which fit an argument, each once,
-/// by the asker's rights and view and from the table of revisions alone. The one error is want of memory.
+/// `dirs DIR...`: the directories of files that aren't deleted, or of the places at which the client shows them, which
+/// fit an argument, each once, by the asker's rights and view and from the table of revisions alone. The one error is
+/// want of memory.
 pub fn dirs(
     alloc: Global,
     tables: &Tables,

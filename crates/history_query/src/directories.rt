@@ -213,9 +213,10 @@ fn by_files(
     Ok(set)
 }
 
-/// The directories that an argument names, as they are printed, in their order. It walks over the rows alone of files that begin with the literal
-/// text with which the argument begins, and where the argument is in depot syntax and without `...`, it leaps over all files below a directory once it
-/// is told, or doesn't fit. The one error is want of memory.
+/// The directories that an argument names, as they are printed, in their order. It walks over the rows alone of files
+/// that begin with the literal text with which the argument begins, and where the argument is in depot syntax and
+/// without `...`, it leaps over all files below a directory once it is told, or doesn't fit. The one error is want of
+/// memory.
 pub(crate) fn directories(
     alloc: Global,
     tables: &Tables,

@@ -174,8 +174,8 @@ impl<'a> FileAct for Credited<'a> {
     ghost next = { λ credited d e argument path later. tt };
 }
 
-/// `integrated FILE...`: the integration records of files, from the tables of forms, integration records and revisions alone. Its arguments ask for no
-/// revision. The one error is want of memory.
+/// `integrated FILE...`: the integration records of files, from the tables of forms, integration records and revisions
+/// alone. Its arguments ask for no revision. The one error is want of memory.
 pub fn integrated(
     alloc: Global,
     tables: &Tables,

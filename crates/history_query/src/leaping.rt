@@ -49,7 +49,8 @@ fn slashes_in(pattern: &Pattern) -> usize
         .count()
 }
 
-/// How many slashes behind two each text has that fits a pattern; None for a pattern with `...`, which fits texts with any number.
+/// How many slashes behind two each text has that fits a pattern; None for a pattern with `...`, which fits texts with
+/// any number.
 pub(crate) fn depth_of(pattern: &Pattern) -> Option<usize>
     ensures { IfSome result (λ depth. IsDepth pattern.now depth) }
 {
@@ -158,7 +159,8 @@ fn after_directory(alloc: Global, directory: &[u8]) -> Result<Text, AllocError>
     Ok(text)
 }
 
-/// Adds the directory of a file that fits, if the file is seen, and gives the text from which on no more files tell of it.
+/// Adds the directory of a file that fits, if the file is seen, and gives the text from which on no more files tell of
+/// it.
 fn leap(
     alloc: Global,
     tables: &Tables,
@@ -205,7 +207,8 @@ fn rows_list_files(tables: &Tables)
     let _table = version.table();
 }
 
-/// The directories of a depth that fit a pattern, each once, as they are printed, in the order in which a walk over the files comes to them.
+/// The directories of a depth that fit a pattern, each once, as they are printed, in the order in which a walk over the
+/// files comes to them.
 fn found_by_leaps(
     alloc: Global,
     tables: &Tables,
@@ -240,8 +243,9 @@ fn set_of(alloc: Global, texts: Sequence<Text>) -> Result<TextSet, AllocError>
     Ok(set)
 }
 
-/// The directories of submitted files that fit a pattern in depot syntax, all of whose texts have so many slashes behind two, as they are printed. Its
-/// cost follows the directories of that depth, and the files below them up to the first that is live and may be listed.
+/// The directories of submitted files that fit a pattern in depot syntax, all of whose texts have so many slashes
+/// behind two, as they are printed. Its cost follows the directories of that depth, and the files below them up to the
+/// first that is live and may be listed.
 pub(crate) fn by_leaps(
     alloc: Global,
     tables: &Tables,

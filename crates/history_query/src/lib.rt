@@ -1,6 +1,7 @@
 //! Commands that read the history of files: `files`, `print`, `fstat`, `filelog`, `integrated` and `dirs`.
 //!
-//! Each makes a `Step` without deeds from the tables alone that it names. Its cost follows the files that its arguments name.
+//! Each makes a `Step` without deeds from the tables alone that it names. Its cost follows the files that its arguments
+//! name.
 #![tactic(auto)]
 
 mod choosing;

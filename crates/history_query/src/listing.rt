@@ -94,8 +94,8 @@ impl ChoiceAct for Listed {
     }
 }
 
-/// `files [-e] FILE...`: the revisions that arguments choose of files, with `-e` those alone that aren't deleted, from the tables of forms, have
-/// lists, labels, changes and revisions alone. The one error is want of memory.
+/// `files [-e] FILE...`: the revisions that arguments choose of files, with `-e` those alone that aren't deleted, from
+/// the tables of forms, have lists, labels, changes and revisions alone. The one error is want of memory.
 pub fn files(
     alloc: Global,
     tables: &Tables,

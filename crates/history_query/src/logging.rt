@@ -399,9 +399,9 @@ impl<'a> ChoiceAct for Logged<'a> {
     }
 }
 
-/// `filelog FILE...`: the revisions of files up to those that arguments choose, the newest first, with their integration records, from the tables
-/// of forms, have lists, labels, integration records, changes and revisions alone. It goes over a file's integration records once. The one error is
-/// want of memory.
+/// `filelog FILE...`: the revisions of files up to those that arguments choose, the newest first, with their
+/// integration records, from the tables of forms, have lists, labels, integration records, changes and revisions alone.
+/// It goes over a file's integration records once. The one error is want of memory.
 pub fn filelog(
     alloc: Global,
     tables: &Tables,

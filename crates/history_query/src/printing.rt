@@ -141,8 +141,8 @@ impl<'a> ChoiceAct for Printed<'a> {
     }
 }
 
-/// `print FILE...`: the revisions that arguments choose of files, whose rows wait for their contents, from the tables of forms, have lists, labels,
-/// changes and revisions alone. The one error is want of memory.
+/// `print FILE...`: the revisions that arguments choose of files, whose rows wait for their contents, from the tables
+/// of forms, have lists, labels, changes and revisions alone. The one error is want of memory.
 pub fn print(
     alloc: Global,
     tables: &Tables,

@@ -86,7 +86,8 @@ fn with_action(made: RowBuilder, opening: Option<&WorkingRecord>) -> Result<RowB
     }
 }
 
-/// The row of a file with its place in the client workspace, the revision that the client has, and its opening of the file.
+/// The row of a file with its place in the client workspace, the revision that the client has, and its opening of the
+/// file.
 #[tactic(auto, using(crate::proofs::Pushed::joined_parts))]
 fn stat_row(
     alloc: Global,
@@ -155,8 +156,8 @@ impl<'a> ChoiceAct for Stated<'a> {
     }
 }
 
-/// `fstat FILE...`: the revisions that arguments choose of files, with what the client has of them, from the tables of forms, have lists, labels,
-/// opened files, changes and revisions alone. The one error is want of memory.
+/// `fstat FILE...`: the revisions that arguments choose of files, with what the client has of them, from the tables of
+/// forms, have lists, labels, opened files, changes and revisions alone. The one error is want of memory.
 pub fn file_stat(
     alloc: Global,
     tables: &Tables,

@@ -172,9 +172,10 @@ impl<'a> TurnAct for Integrating<'a> {
     }
 }
 
-/// `integrate [-c CHANGE] FROM TO`: opens the target of each submitted file that FROM names for the revisions that aren't integrated into it yet, with
-/// the resolve that it owes. It reads the tables of forms, have lists, labels, integration records, opened files, changes and
-/// revisions, and of each source and target its rows alone. The one error is want of memory.
+/// `integrate [-c CHANGE] FROM TO`: opens the target of each submitted file that FROM names for the revisions that
+/// aren't integrated into it yet, with the resolve that it owes. It reads the tables of forms, have lists, labels,
+/// integration records, opened files, changes and revisions, and of each source and target its rows alone. The one
+/// error is want of memory.
 pub fn integrate(
     alloc: Global,
     tables: &Tables,

@@ -1,5 +1,5 @@
-//! What the commands do that integrate files, as deeds and rows of replies: which revisions of a file are credited to another one, what `integrate` opens,
-//! and what `resolve` settles.
+//! What the commands do that integrate files, as deeds and rows of replies: which revisions of a file are credited to
+//! another one, what `integrate` opens, and what `resolve` settles.
 #![tactic(auto)]
 
 mod based;

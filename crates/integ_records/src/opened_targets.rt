@@ -73,8 +73,8 @@ fn type_at(alloc: Global, tables: &Tables, path: &DepotPath, rev: u32) -> Result
     Ok(file_type)
 }
 
-/// The type with which a target is opened: its own, or that of the source's last revision where it isn't live. The one error, here and below, is want
-/// of memory.
+/// The type with which a target is opened: its own, or that of the source's last revision where it isn't live. The one
+/// error, here and below, is want of memory.
 pub(crate) fn new_type(
     alloc: Global,
     tables: &Tables,

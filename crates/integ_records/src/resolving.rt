@@ -68,8 +68,9 @@ impl<'a> FileAct for Resolving<'a> {
     ghost next = { λ resolving d e argument path later. tt };
 }
 
-/// `resolve -at [FILE...]`, `resolve -ay [FILE...]`: pays the resolves that the client owes for files that it has opened, where it takes theirs or
-/// yours, from the tables of forms, resolves, opened files and revisions alone. The one error is want of memory.
+/// `resolve -at [FILE...]`, `resolve -ay [FILE...]`: pays the resolves that the client owes for files that it has
+/// opened, where it takes theirs or yours, from the tables of forms, resolves, opened files and revisions alone. The
+/// one error is want of memory.
 pub fn resolve(
     alloc: Global,
     tables: &Tables,

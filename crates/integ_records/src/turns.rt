@@ -123,7 +123,8 @@ fn take_last(
     Ok(())
 }
 
-/// Of a resolve from the file itself theirs is taken: a deleted revision ends the opening. Gives whether the file stays opened.
+/// Of a resolve from the file itself theirs is taken: a deleted revision ends the opening. Gives whether the file stays
+/// opened.
 fn take_their_last(
     alloc: Global,
     tables: &Tables,

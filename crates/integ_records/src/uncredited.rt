@@ -56,8 +56,9 @@ fn ends_outside(revs: &[u32], spans: &[Span]) -> Option<Span>
     ends
 }
 
-/// The first and the last of the revisions of a source that are wanted and aren't integrated into its target yet, None exactly where there are none.
-/// It reads the source's revisions and the target's integration records. The one error is want of memory.
+/// The first and the last of the revisions of a source that are wanted and aren't integrated into its target yet, None
+/// exactly where there are none. It reads the source's revisions and the target's integration records. The one error is
+/// want of memory.
 pub(crate) fn ends_wanted(
     alloc: Global,
     tables: &Tables,

@@ -27,7 +27,8 @@ pub fn digits(alloc: Global, number: u32) -> Result<Text, AllocError>
     Text::from_bytes(alloc, Buffer::new().format(number).as_bytes())
 }
 
-/// The form with a value in a field. A form of a fix or a job has each of the fields that are given so, and each value is one of a field.
+/// The form with a value in a field. A form of a fix or a job has each of the fields that are given so, and each value
+/// is one of a field.
 pub fn with(alloc: Global, form: &Form, field: &str, value: &[u8]) -> Result<Form, AllocError>
     ensures { IfOk result (λ more. more ≡ with_field field.now value.now form.now) }
 {

@@ -109,7 +109,8 @@ fn fix_beginning(alloc: Global, job: &Text) -> Result<Text, AllocError>
     Ok(start)
 }
 
-/// The names of the fixes by a change, where one is asked for by its digits, else of those of a job, where one is asked for, else of all.
+/// The names of the fixes by a change, where one is asked for by its digits, else of those of a job, where one is asked
+/// for, else of all.
 fn asked_names(
     alloc: Global,
     tables: &Tables,
@@ -129,8 +130,9 @@ fn asked_names(
     }
 }
 
-/// The fixes that are on, by name, of a change and of a job, as far as they are asked for, from the table of forms alone. It reads the fixes by the
-/// change, or where none is asked for those of the job, or all. The one error is want of memory.
+/// The fixes that are on, by name, of a change and of a job, as far as they are asked for, from the table of forms
+/// alone. It reads the fixes by the change, or where none is asked for those of the job, or all. The one error is want
+/// of memory.
 pub fn fixes_asked(
     alloc: Global,
     tables: &Tables,
@@ -146,8 +148,8 @@ pub fn fixes_asked(
     Ok(forms)
 }
 
-/// The fixes of a change that are on, by name (Command-Line Reference, "p4 fix"), from the table of forms alone. It reads the
-/// fixes by the change. The one error is want of memory.
+/// The fixes of a change that are on, by name (Command-Line Reference, "p4 fix"), from the table of forms alone. It
+/// reads the fixes by the change. The one error is want of memory.
 pub fn fixes_of(alloc: Global, tables: &Tables, change: u32) -> Result<Sequence<Form>, AllocError>
     ensures { IfOk result (λ forms. (d : List Deed) → IsSound d → HasRows (rows_of tables.now) d table_ids.Domain → forms ≡ model.fixes_of d change) }
 {

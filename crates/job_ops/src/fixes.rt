@@ -28,7 +28,8 @@ fn fix_row(alloc: Global, form: &Form) -> Result<Row, AllocError>
     Ok(row_of(fields))
 }
 
-/// `fixes [-c N] [-j JOB]`, from the table of forms alone. It reads the fixes by the change, or without one those of the job, or all.
+/// `fixes [-c N] [-j JOB]`, from the table of forms alone. It reads the fixes by the change, or without one those of
+/// the job, or all.
 pub fn fix_list(
     alloc: Global,
     tables: &Tables,

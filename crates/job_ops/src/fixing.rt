@@ -70,9 +70,9 @@ fn fix_job(
     Ok(step)
 }
 
-/// `fix -c N JOB...`, from the tables of forms and changes: each job is one that the change fixes, and is closed where the change is submitted. It
-/// is refused first where there is no such change, then the first job that isn't saved, and that the change would have more than 100 fixes. It
-/// reads the fixes by the change.
+/// `fix -c N JOB...`, from the tables of forms and changes: each job is one that the change fixes, and is closed where
+/// the change is submitted. It is refused first where there is no such change, then the first job that isn't saved, and
+/// that the change would have more than 100 fixes. It reads the fixes by the change.
 pub fn fix(
     alloc: Global,
     tables: &Tables,
@@ -130,8 +130,8 @@ fn unfix_job(alloc: Global, tables: &Tables, change: u32, name: &[u8]) -> Result
     Ok(step)
 }
 
-/// `fix -d -c N JOB...`, from the tables of forms and changes: the change fixes the jobs no more. It is refused first where there is no such
-/// change, and then the first job that isn't saved.
+/// `fix -d -c N JOB...`, from the tables of forms and changes: the change fixes the jobs no more. It is refused first
+/// where there is no such change, and then the first job that isn't saved.
 pub fn fix_delete(
     alloc: Global,
     tables: &Tables,

@@ -1,7 +1,7 @@
 //! What the commands do on jobs and on the changes that fix them, as deeds and rows of replies.
 //!
-//! Each command answers for all tables. Where those that it reads have the rows of a sound depot, its step is the model's. The one
-//! error is want of memory.
+//! Each command answers for all tables. Where those that it reads have the rows of a sound depot, its step is the
+//! model's. The one error is want of memory.
 #![tactic(auto)]
 
 mod fixes;

@@ -35,8 +35,8 @@ pub(crate) fn is_landed(tables: &Tables, change: u32) -> bool
     }
 }
 
-/// The row of the refusal of a change that is neither pending nor submitted, or of the first of some jobs that isn't saved, from the tables of
-/// changes and forms alone.
+/// The row of the refusal of a change that is neither pending nor submitted, or of the first of some jobs that isn't
+/// saved, from the tables of changes and forms alone.
 pub(crate) fn named_refusal(
     alloc: Global,
     tables: &Tables,

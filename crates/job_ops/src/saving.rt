@@ -84,7 +84,8 @@ fn job_name(alloc: Global, number: u64) -> Result<Text, AllocError>
     Ok(name)
 }
 
-/// Whether a job's name neither asks for the next number nor is that of a job that is saved, from the table of forms alone.
+/// Whether a job's name neither asks for the next number nor is that of a job that is saved, from the table of forms
+/// alone.
 fn is_unknown(alloc: Global, tables: &Tables, name: &[u8]) -> Result<bool, AllocError>
     ensures { IfOk result (λ unknown. (d : List Deed) → IsSound d → HasRows (rows_of tables.now) d table_ids.Domain →
         unknown ≡ (not (model.is_new name.now) && is_none (jobs.job d name.now))) }
@@ -140,9 +141,9 @@ fn save_form(alloc: Global, tables: &Tables, input: &[u8], form: &Form) -> Resul
     keep(alloc, name, form)
 }
 
-/// `job -i`: the form that the input spells is saved, a new job under the next number. It is refused first where it can't be read, then that
-/// its status is none, that its job is neither new nor saved, that its text is too long, and that no number is left for a new job. Of the
-/// tables it reads that of forms alone.
+/// `job -i`: the form that the input spells is saved, a new job under the next number. It is refused first where it
+/// can't be read, then that its status is none, that its job is neither new nor saved, that its text is too long, and
+/// that no number is left for a new job. Of the tables it reads that of forms alone.
 pub fn job_save(alloc: Global, tables: &Tables, input: &[u8]) -> Result<Step, AllocError>
     ensures { IfOk result (λ step. (d : List Deed) → IsSound d → HasRows (rows_of tables.now) d table_ids.Domain →
         IsMade (rows_of tables.now) d d (model.job_save d input.now) step) }

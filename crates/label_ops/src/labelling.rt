@@ -61,10 +61,11 @@ fn sync_files<'a>(
     Ok(step)
 }
 
-/// `labelsync -l LABEL [-a or -d] [FILE...]`: the label has the files at the revisions that the arguments choose, for an argument without one at
-/// those of the client's have list, and loses the other files that are named; with `-a` it keeps them, and with `-d` it loses all that are named.
-/// It is refused where the label isn't saved, or is locked. It reads the tables of forms, have lists, labels, changes and
-/// revisions, and of each file that is named its rows alone. The one error is want of memory.
+/// `labelsync -l LABEL [-a or -d] [FILE...]`: the label has the files at the revisions that the arguments choose, for
+/// an argument without one at those of the client's have list, and loses the other files that are named; with `-a` it
+/// keeps them, and with `-d` it loses all that are named. It is refused where the label isn't saved, or is locked. It
+/// reads the tables of forms, have lists, labels, changes and revisions, and of each file that is named its rows alone.
+/// The one error is want of memory.
 pub fn labelsync(
     alloc: Global,
     tables: &Tables,

@@ -81,9 +81,9 @@ fn tag_all(
     Ok(step)
 }
 
-/// `tag -l LABEL [-d] FILE...`: the label has the files at the revisions that the arguments choose, with `-d` no more; it is made where it is
-/// absent. It is refused where the label is locked. It reads the tables of forms, have lists, labels, changes and revisions,
-/// and of each file that is named its rows alone. The one error is want of memory.
+/// `tag -l LABEL [-d] FILE...`: the label has the files at the revisions that the arguments choose, with `-d` no more;
+/// it is made where it is absent. It is refused where the label is locked. It reads the tables of forms, have lists,
+/// labels, changes and revisions, and of each file that is named its rows alone. The one error is want of memory.
 pub fn tag(
     alloc: Global,
     tables: &Tables,

@@ -39,14 +39,16 @@ pub(crate) struct Taking<'a> {
     pub(crate) have: bool,
 }
 
-/// What is done with the files that a label takes or loses, with the newest revisions that the walk saw which found them.
+/// What is done with the files that a label takes or loses, with the newest revisions that the walk saw which found
+/// them.
 #[derive(Drop)]
 pub(crate) struct TakingFiles<'a> {
     pub(crate) taking: Taking<'a>,
     pub(crate) heads: SeenRows<'a>,
 }
 
-/// What `tag` does with a file of which no live revision is chosen: it leaves it, and with `-d` it removes all files that are named.
+/// What `tag` does with a file of which no live revision is chosen: it leaves it, and with `-d` it removes all files
+/// that are named.
 pub(crate) fn labelling_of(removes: bool) -> Labelling
     ensures { result ≡ labelling_by removes }
 {

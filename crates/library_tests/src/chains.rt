@@ -13,7 +13,8 @@ use recovery::make_files;
 use replica_chain::{Node, NodeFault, NotNode, Pair};
 use std::alloc::{AllocError, Global};
 
-/// The committed text of a journal of five changes: a client is saved, a file is added with no bytes and submitted, and edited and submitted as `hello`.
+/// The committed text of a journal of five changes: a client is saved, a file is added with no bytes and submitted, and
+/// edited and submitted as `hello`.
 pub const JOURNAL: &[u8] = b"@ex@\n\
 @nx@ 1 80\n\
 @pv@ 1 @db.domain@ @client@ @ws1@ @Client:\tws1\n\

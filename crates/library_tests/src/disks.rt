@@ -1,4 +1,5 @@
-//! Disks in folders, step by step. The tests say the steps as data: a function that owns a disk, and each call in it, is dear to prove.
+//! Disks in folders, step by step. The tests say the steps as data: a function that owns a disk, and each call in it,
+//! is dear to prove.
 
 use crate::machine::{is_cleared, is_free, is_made};
 use outside_api::{Disk, Failed};

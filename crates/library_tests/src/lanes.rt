@@ -19,8 +19,8 @@ impl Entry for Place {
     }
 }
 
-/// Whether the first place of an order of three lanes, which touches the first of them, is announced, checked and put there, and the seat of the second
-/// lane then finds it in the word of the first lane and not in that of the third.
+/// Whether the first place of an order of three lanes, which touches the first of them, is announced, checked and put
+/// there, and the seat of the second lane then finds it in the word of the first lane and not in that of the third.
 fn places_first(
     orders: &Orders<Place>,
     order: &mut OrderSeat<Place>,

@@ -1,16 +1,19 @@
-//! Tests of what neither a contract nor a run of the whole server tells: real files, folders and the clock, and a link in memory that no program has.
+//! Tests of what neither a contract nor a run of the whole server tells: real files, folders and the clock, and a link
+//! in memory that no program has.
 //!
-//! What a run of the whole server can show stands in the cases of the program `acceptance`, and what a definition gives for values from outside is
-//! computed in proofs, here that of dates.
+//! What a run of the whole server can show stands in the cases of the program `acceptance`, and what a definition gives
+//! for values from outside is computed in proofs, here that of dates.
 #![tactic(auto)]
 
 /// A replica that follows a depot while its parties ask it (`shared_depot`).
 #[cfg(test)]
 mod at_work;
-/// Callers of libraries that programs use too (`depot_path`, `view_map`, `protect_table`, `spec_form`, `record_text`, `archive_file`).
+/// Callers of libraries that programs use too (`depot_path`, `view_map`, `protect_table`, `spec_form`, `record_text`,
+/// `archive_file`).
 #[cfg(test)]
 mod callers;
-/// Calls that no program makes, with ample memory (`replica_pull`, `journal_groups`, `table_store`, `wire_text`, `command_needs`).
+/// Calls that no program makes, with ample memory (`replica_pull`, `journal_groups`, `table_store`, `wire_text`,
+/// `command_needs`).
 #[cfg(test)]
 mod calls;
 /// A node that follows a journal and copies contents, both in memory (`replica_chain`).

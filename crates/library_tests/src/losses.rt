@@ -6,8 +6,8 @@ use outside_api::{Failed, Fetched, Link};
 use std::alloc::{AllocError, Global};
 use std::test::Fail;
 
-/// Two generations of three bytes and one; the seventh call fails. The journal had two bytes within the first, three at its end, and four where
-/// both are whole.
+/// Two generations of three bytes and one; the seventh call fails. The journal had two bytes within the first, three at
+/// its end, and four where both are whole.
 fn whole_link(alloc: Global) -> Result<MemoryLink, AllocError> {
     let calls = vec![in alloc; 7u64]?;
     let first = Text::from_bytes(alloc, b"abc")?;

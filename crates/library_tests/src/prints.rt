@@ -72,7 +72,8 @@ fn gives(
     Ok(is_given)
 }
 
-/// Whether a request for the file is answered with its content where the archive has it, and else with the place at which it would begin.
+/// Whether a request for the file is answered with its content where the archive has it, and else with the place at
+/// which it would begin.
 fn looks_at_digests(alloc: Global, replica: &Replica, request: &Request) -> bool {
     gives(alloc, replica, request, b"hello") == Ok(true)
         && gives(alloc, replica, request, b"jello") == Err(PrintFault::BadContent(0))

@@ -23,8 +23,8 @@ pub fn has_refusing(rt: &HostRuntime) -> bool {
     }
 }
 
-/// The files of the machine, where at one path there is a file that takes digits and refuses each sync, so that it tells
-/// whether a sync comes to it.
+/// The files of the machine, where at one path there is a file that takes digits and refuses each sync, so that it
+/// tells whether a sync comes to it.
 #[derive(Drop)]
 pub struct OneRefusing<'a, R> {
     files: &'a R,

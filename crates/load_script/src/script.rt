@@ -84,8 +84,8 @@ fn put_steps(out: &mut Text, seed: u32, count: u32) -> Result<(), AllocError>
     Ok(())
 }
 
-/// The script that the mode `load` runs: its session saves a client, and brings in one of ten files at each step, as the seed draws them. The one error
-/// is want of memory.
+/// The script that the mode `load` runs: its session saves a client, and brings in one of ten files at each step, as
+/// the seed draws them. The one error is want of memory.
 pub fn load_script(alloc: Global, seed: u32, count: u32) -> Result<Text, AllocError>
     ensures { IfOk result (λ text. text ≡ script_of seed count) }
 {

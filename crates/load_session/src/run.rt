@@ -67,8 +67,8 @@ fn run_read<T: Taker, C: Clock, G: Gate>(
     }
 }
 
-/// Makes the script of a seed and a number of steps, and takes the commands of its session, as party 1. Its replies go nowhere. Without memory for the
-/// script nothing is taken; a command that finds no memory has no place.
+/// Makes the script of a seed and a number of steps, and takes the commands of its session, as party 1. Its replies go
+/// nowhere. Without memory for the script nothing is taken; a command that finds no memory has no place.
 pub fn run_load<T: Taker, C: Clock, G: Gate>(
     alloc: Global,
     seed: u32,

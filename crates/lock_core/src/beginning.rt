@@ -53,7 +53,8 @@ fn idle_party(alloc: Global, requests: Vec<Request>) -> Result<Party, AllocError
 }
 
 impl LockCore {
-    /// The parties that ask these requests, each in its order, over these tables; none has begun. The one error is want of memory.
+    /// The parties that ask these requests, each in its order, over these tables; none has begun. The one error is want
+    /// of memory.
     pub fn new(
         alloc: Global,
         tables: Tables,

@@ -23,8 +23,8 @@ impl LockCore {
         }
     }
 
-    /// Makes the commit of a party whose last turn was ready, which ends so; this many bytes of the archive are used then. Where its last turn
-    /// found no memory, the commit ends without a place.
+    /// Makes the commit of a party whose last turn was ready, which ends so; this many bytes of the archive are used
+    /// then. Where its last turn found no memory, the commit ends without a place.
     pub fn finish(&mut self, party: u32, how: Finish, used: u64)
         requires { used ≤ 2 ^ 63 - 1 }
         ensures end { self.new.tables.archive_end ≡ used }

@@ -63,8 +63,9 @@ impl LockCore {
         None
     }
 
-    /// The party whose turn a value draws: of those whose next event is enabled, or that have something left to do outside of the machine, in rising order,
-    /// the one at the value's place, modulo how many they are; none where there is none. The others tell by party how much each has left to do there.
+    /// The party whose turn a value draws: of those whose next event is enabled, or that have something left to do
+    /// outside of the machine, in rising order, the one at the value's place, modulo how many they are; none where
+    /// there is none. The others tell by party how much each has left to do there.
     pub fn drawn(&self, value: u32, others: &[u32]) -> Option<u32>
         ensures { (start : List Deed) (s : State) → Shows start self.now s → length s.parties < 2 ^ 32 → result ≡ chosen (going_parties s others.now) value }
     {

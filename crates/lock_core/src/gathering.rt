@@ -67,7 +67,8 @@ fn has_journal(stage: Stage) -> bool
 }
 
 impl Work {
-    /// Whether it has taken the lock of a table, and owns it: those that the command writes, and in a second attempt each.
+    /// Whether it has taken the lock of a table, and owns it: those that the command writes, and in a second attempt
+    /// each.
     fn has_taken(&self, lock: LockId) -> bool
         ensures { result ≡ list_any (holds_taken self.now.needs self.now.second lock) (take self.now.done (locks_in self.now.needs)) }
     {
@@ -113,7 +114,8 @@ impl Work {
         }
     }
 
-    /// Takes the next lock of its set; or else judges: where a table that it looked at was changed since, it begins its second attempt.
+    /// Takes the next lock of its set; or else judges: where a table that it looked at was changed since, it begins its
+    /// second attempt.
     pub(crate) fn gather(&mut self)
         ensures { self.new ≡ gathered self.old }
     {

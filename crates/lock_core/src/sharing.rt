@@ -42,7 +42,8 @@ impl LockCore {
         }
     }
 
-    /// The tables after the commit that a party has at hand, shared; the tables as they are, where none is at hand. The one error is want of memory.
+    /// The tables after the commit that a party has at hand, shared; the tables as they are, where none is at hand. The
+    /// one error is want of memory.
     pub fn tables_after(&self, alloc: Global, party: u32) -> Result<Tables, AllocError>
         ensures { IfOk result (λ after. (start : List Deed) (s : State) (request : ModelRequest) (outcome : AnyOutcome) → IsReady start s self.now party request outcome →
             rows_of after ≡ changed_by (rows_of self.now.tables) outcome.changes) }

@@ -63,8 +63,9 @@ impl LockCore {
         }
     }
 
-    /// Makes a party's event, if it is enabled; but its commit, for which it answers the outcome, is left to `finish`. The one error is
-    /// want of memory, where a commit is at hand, and then nothing is changed: `finish` may end it without a place.
+    /// Makes a party's event, if it is enabled; but its commit, for which it answers the outcome, is left to `finish`.
+    /// The one error is want of memory, where a commit is at hand, and then nothing is changed: `finish` may end it
+    /// without a place.
     pub fn turn(&mut self, alloc: Global, party: u32) -> Result<Turn, AllocError>
         ensures turn { IfOk result (λ turn. (start : List Deed) (s : State) → Shows start self.old s → IsTurn start s self.old self.new party turn) }
         ensures same { OnErr result (IsAsBefore self.old self.new) }

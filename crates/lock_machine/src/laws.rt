@@ -9,9 +9,9 @@ ghost use Rattle.lock_machine.specs.Machine.{State, Party, Finish, is_enabled, i
 ghost use Rattle.lock_machine.specs.Runs.{AllServedIn, AllTell, Event, IsRun, SawAllBy, beginning, events};
 ghost use Rattle.lock_machine.specs.Turns.{turns_left};
 
-/// After every list of events no lock has two owners and the depot is that of the places so far, and sound; who commits saw of each table of its
-/// command's set the rows that the depot has; while a party isn't finished, some event is enabled, and one of a party with a command at hand while
-/// there is one; and each event leaves fewer turns.
+/// After every list of events no lock has two owners and the depot is that of the places so far, and sound; who commits
+/// saw of each table of its command's set the rows that the depot has; while a party isn't finished, some event is
+/// enabled, and one of a party with a command at hand while there is one; and each event leaves fewer turns.
 pub fn parties_see_the_depot_at_their_place()
     ensures run { (start : List Deed) (requests : List (List Request)) (es : List Event) → IsSound start → AllServedIn requests →
         AllTell start (beginning requests) es → IsRun start (events (beginning requests) es) }

@@ -70,8 +70,8 @@ fn view_or_none(alloc: Global, tables: &Tables, client: &Name) -> Result<View, A
 }
 
 impl Asker {
-    /// The asker of a request, from the tables of protections and forms alone; who asks is read before (`who_of` of `row_reads`). The one error is want of
-    /// memory.
+    /// The asker of a request, from the tables of protections and forms alone; who asks is read before (`who_of` of
+    /// `row_reads`). The one error is want of memory.
     pub fn with(
         alloc: Global,
         tables: &Tables,

@@ -29,8 +29,9 @@ fn set_apart(texts: Sequence<Text>) -> Sequence<Text>
     Sequence::from_vec(texts)
 }
 
-/// Texts with one of which every file begins, as it is printed, that begins itself with the literal text of a pattern, or in client syntax whose place
-/// does: there those with which the lines of the view put files there, without those that begin with another one.
+/// Texts with one of which every file begins, as it is printed, that begins itself with the literal text of a pattern,
+/// or in client syntax whose place does: there those with which the lines of the view put files there, without those
+/// that begin with another one.
 pub(crate) fn begun_of(
     alloc: Global,
     asker: &Asker,

@@ -19,8 +19,8 @@ use reply_rows::Step;
 use revision_reads::chosen_revision;
 use std::alloc::{AllocError, Global};
 
-/// The files of a list of which the arguments of a caller name some, as those of [`ShownFiles`](crate::ShownFiles), and choose a revision: one
-/// that isn't passed over (Command-Line Reference, "p4 files").
+/// The files of a list of which the arguments of a caller name some, as those of [`ShownFiles`](crate::ShownFiles), and
+/// choose a revision: one that isn't passed over (Command-Line Reference, "p4 files").
 #[derive(Drop)]
 pub struct ChosenFiles<'a> {
     pub caller: &'a Caller,

@@ -12,8 +12,8 @@ use file_steps::FileSet;
 use reply_rows::Step;
 use std::alloc::{AllocError, Global};
 
-/// The files of a list of which the arguments of a caller name some: one in client syntax those that the client shows there at their heads,
-/// whichever revision it asks for.
+/// The files of a list of which the arguments of a caller name some: one in client syntax those that the client shows
+/// there at their heads, whichever revision it asks for.
 #[derive(Drop)]
 pub struct HeadFiles<'a> {
     pub caller: &'a Caller,

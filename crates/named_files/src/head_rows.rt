@@ -29,7 +29,8 @@ use std::alloc::{AllocError, Global};
 pub struct HeadedFiles<'t> {
     /// The files.
     pub paths: Sequence<DepotPath>,
-    /// The rows, in the order of the files; none where the list isn't that of the submitted files, or the files were looked up.
+    /// The rows, in the order of the files; none where the list isn't that of the submitted files, or the files were
+    /// looked up.
     pub heads: Vec<&'t RevRecord>,
 }
 
@@ -70,8 +71,8 @@ fn add_last<'t>(heads: &mut Vec<&'t RevRecord>, last: Option<&'t Record>) -> Res
     Ok(())
 }
 
-/// Adds the files of a list whose printed paths begin with a text, and the last row of each of them. It walks over the rows alone that stand among
-/// those of the list and whose paths begin so.
+/// Adds the files of a list whose printed paths begin with a text, and the last row of each of them. It walks over the
+/// rows alone that stand among those of the list and whose paths begin so.
 fn add_headed_below<'t>(
     alloc: Global,
     paths: &mut Sequence<DepotPath>,
@@ -93,7 +94,8 @@ fn add_headed_below<'t>(
     Ok(())
 }
 
-/// The files of a list whose printed paths begin with one of some texts, those of each text in turn, and their last rows.
+/// The files of a list whose printed paths begin with one of some texts, those of each text in turn, and their last
+/// rows.
 fn headed_below<'t>(
     alloc: Global,
     tables: &'t Tables,
@@ -122,8 +124,8 @@ fn last_rows_are_heads(tables: &Tables, listing: &Listing)
     let _table = version.table();
 }
 
-/// The files that [`candidates`](crate::candidates) gives, and where it walks, the rows of their newest revisions, in the same walk. The one error is
-/// want of memory.
+/// The files that [`candidates`](crate::candidates) gives, and where it walks, the rows of their newest revisions, in
+/// the same walk. The one error is want of memory.
 pub(crate) fn headed_candidates<'t>(
     alloc: Global,
     tables: &'t Tables,

@@ -1,10 +1,10 @@
 //! The files that an argument names, from the rows of the tables.
 //!
-//! A [`Listing`] is a list of files as a table has it, as those that a client has. An [`Asker`] says which of them an argument names, and
-//! [`candidates`] looks up the files that an argument without wildcards may name. For another one it walks over the rows alone whose paths begin with
-//! one of the texts with which the files begin that the argument may name.
-//! [`ListedFiles`], [`ShownFiles`], [`HeadFiles`], [`ChosenFiles`], [`SelectedFiles`] and [`OpenedAnywhere`] are the sets of files over which
-//! commands go.
+//! A [`Listing`] is a list of files as a table has it, as those that a client has. An [`Asker`] says which of them an
+//! argument names, and [`candidates`] looks up the files that an argument without wildcards may name. For another one
+//! it walks over the rows alone whose paths begin with one of the texts with which the files begin that the argument
+//! may name. [`ListedFiles`], [`ShownFiles`], [`HeadFiles`], [`ChosenFiles`], [`SelectedFiles`] and [`OpenedAnywhere`]
+//! are the sets of files over which commands go.
 #![tactic(auto)]
 
 mod anywhere;

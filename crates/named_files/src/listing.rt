@@ -51,7 +51,8 @@ impl Listing {
         }
     }
 
-    /// The client whose openings the list has, as the rows name it, where it is a list of opened files. The one error is want of memory.
+    /// The client whose openings the list has, as the rows name it, where it is a list of opened files. The one error
+    /// is want of memory.
     pub(crate) fn opener(&self, alloc: Global) -> Result<Option<Text>, AllocError>
         ensures { IfOk result (λ client. client ≡ opener_of self.now) }
     {

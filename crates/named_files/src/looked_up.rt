@@ -27,8 +27,8 @@ pub(crate) fn has_wildcard(pattern: &Pattern) -> bool
     pieces.iter().any(|piece| !matches!(piece, Piece::Byte(_)))
 }
 
-/// All files that a pattern without wildcards fits, or in client syntax at the places where the view puts them. The one error, here and below, is want
-/// of memory.
+/// All files that a pattern without wildcards fits, or in client syntax at the places where the view puts them. The one
+/// error, here and below, is want of memory.
 pub(crate) fn spelled_files(
     alloc: Global,
     asker: &Asker,
@@ -116,8 +116,8 @@ pub(crate) fn listed_among<L: FileList>(
     Ok(paths)
 }
 
-/// The files of a list, in the order of their paths, that a pattern without wildcards fits, or in client syntax at the places where the view puts them. It
-/// asks for one row a file.
+/// The files of a list, in the order of their paths, that a pattern without wildcards fits, or in client syntax at the
+/// places where the view puts them. It asks for one row a file.
 pub(crate) fn looked_up(
     alloc: Global,
     tables: &Tables,

@@ -41,7 +41,8 @@ fn rows_tell_made(tables: &Tables)
     let _table = version.table();
 }
 
-/// Adds the files of which a change made a revision and whose printed paths begin with a text. It walks over the rows alone of these revisions.
+/// Adds the files of which a change made a revision and whose printed paths begin with a text. It walks over the rows
+/// alone of these revisions.
 fn add_made_below(
     alloc: Global,
     paths: &mut Sequence<DepotPath>,
@@ -65,7 +66,8 @@ fn add_made_below(
     Ok(())
 }
 
-/// The files of which a change made a revision and whose printed paths begin with one of some texts, those of each text in turn.
+/// The files of which a change made a revision and whose printed paths begin with one of some texts, those of each text
+/// in turn.
 fn made_below(
     alloc: Global,
     tables: &Tables,
@@ -83,9 +85,10 @@ fn made_below(
     Ok(paths)
 }
 
-/// Among the submitted files of which a change made a revision, in the order of their paths, all that a pattern fits at the places where the view puts
-/// them. It walks over the rows of these revisions alone whose paths begin with the literal text of the pattern, or in client syntax with one of the
-/// texts with which the lines of the view put files there; so what it gives may have further files of the change. The one error is want of memory.
+/// Among the submitted files of which a change made a revision, in the order of their paths, all that a pattern fits at
+/// the places where the view puts them. It walks over the rows of these revisions alone whose paths begin with the
+/// literal text of the pattern, or in client syntax with one of the texts with which the lines of the view put files
+/// there; so what it gives may have further files of the change. The one error is want of memory.
 pub(crate) fn files_made(
     alloc: Global,
     tables: &Tables,

@@ -15,7 +15,8 @@ use reply_rows::Step;
 use row_reads::opened_of;
 use std::alloc::{AllocError, Global};
 
-/// The files that the client of a caller has opened, in a change where one is given, of which the arguments of the caller name some.
+/// The files that the client of a caller has opened, in a change where one is given, of which the arguments of the
+/// caller name some.
 #[derive(Drop)]
 pub struct SelectedFiles<'a> {
     pub caller: &'a Caller,

@@ -29,8 +29,8 @@ use revision_reads::shown_by;
 use row_reads::in_client_syntax;
 use std::alloc::{AllocError, Global};
 
-/// The files of a list of which the arguments of a caller name some: one in client syntax those that the client shows there at the revisions
-/// for which it asks.
+/// The files of a list of which the arguments of a caller name some: one in client syntax those that the client shows
+/// there at the revisions for which it asks.
 #[derive(Drop)]
 pub struct ShownFiles<'a> {
     pub caller: &'a Caller,
@@ -81,8 +81,8 @@ pub(crate) fn is_shown(
 }
 
 impl<'a> ShownFiles<'a> {
-    /// Among the files, in their order, at least those that an argument names, and the rows of their newest revisions: the walk that finds the files
-    /// passes these rows. The one error is want of memory.
+    /// Among the files, in their order, at least those that an argument names, and the rows of their newest revisions:
+    /// the walk that finds the files passes these rows. The one error is want of memory.
     pub fn headed<'t>(
         &self,
         alloc: Global,

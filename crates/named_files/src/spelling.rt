@@ -8,7 +8,8 @@ use depot_rows::model::FileArgument;
 use depot_rows::paths::DepotPath;
 use std::alloc::{AllocError, Global};
 
-/// The path that an argument without wildcards spells, None exactly where it spells none. The one error is want of memory.
+/// The path that an argument without wildcards spells, None exactly where it spells none. The one error is want of
+/// memory.
 pub fn spelled_path(alloc: Global, argument: &FileArgument) -> Result<Option<DepotPath>, AllocError>
     ensures { IfOk result (λ path. path ≡ (if spells_path argument.now then Some (spelled argument.now) else None)) }
 {

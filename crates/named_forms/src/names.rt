@@ -66,8 +66,9 @@ fn leading_names(
     Ok(names)
 }
 
-/// The names that begin with a text among those under which forms of a kind are saved, in the order of bytes, from the table of forms alone. The kind is
-/// given by its word. It walks over these names alone, and reads no form. The one error is want of memory.
+/// The names that begin with a text among those under which forms of a kind are saved, in the order of bytes, from the
+/// table of forms alone. The kind is given by its word. It walks over these names alone, and reads no form. The one
+/// error is want of memory.
 pub fn names_with(
     alloc: Global,
     tables: &Tables,
@@ -85,8 +86,9 @@ pub fn names_with(
     Ok(names)
 }
 
-/// The names of the fixes by a change, which is given by its digits, in the order of bytes, from the table of forms alone: behind the name of a job and
-/// a space a fix's name has the digits of its change. It walks over these names alone, and reads no form. The one error is want of memory.
+/// The names of the fixes by a change, which is given by its digits, in the order of bytes, from the table of forms
+/// alone: behind the name of a job and a space a fix's name has the digits of its change. It walks over these names
+/// alone, and reads no form. The one error is want of memory.
 pub fn fix_names(
     alloc: Global,
     tables: &Tables,

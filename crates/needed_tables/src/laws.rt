@@ -12,8 +12,8 @@ ghost use Rattle.depot_rows.specs.Standing.{Stand};
 ghost use Rattle.needed_tables.specs.Needed.{AgreeOnChanged, AgreeOnNeeded, AreNeeded};
 ghost use Rattle.depot_rows.specs.table_changes.Changed.{AllFitIn, AllRows};
 
-/// Where tables agree with those of a depot on all that a request needs, what is found over them is its outcome over all tables of
-/// the depot, if it changes no table that the request doesn't need.
+/// Where tables agree with those of a depot on all that a request needs, what is found over them is its outcome over
+/// all tables of the depot, if it changes no table that the request doesn't need.
 pub fn outcomes_depend_on_their_set_alone()
     ensures { (rows all : AllRows) (from : ℕ) (d : List Deed) (request : Request) (outcome : Outcome) → Stand all d → AgreeOnNeeded rows all request →
         AreNeeded request outcome.changes → IsOutcome rows from d request outcome → IsOutcome all from d request outcome }

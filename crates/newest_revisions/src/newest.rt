@@ -110,8 +110,9 @@ fn searched<'t>(
 }
 
 impl<'t> SeenRows<'t> {
-    /// Among the files of a set, in their order, at least those that an argument names. Where it asks for the newest revisions of submitted files, the
-    /// walk that finds these passes the rows of the revisions too, and these are kept. The one error, here and below, is want of memory.
+    /// Among the files of a set, in their order, at least those that an argument names. Where it asks for the newest
+    /// revisions of submitted files, the walk that finds these passes the rows of the revisions too, and these are
+    /// kept. The one error, here and below, is want of memory.
     pub fn find(
         &mut self,
         alloc: Global,
@@ -134,7 +135,8 @@ impl<'t> SeenRows<'t> {
         Ok(paths)
     }
 
-    /// The row of the newest revision of a file, where none is asked for, and it was seen behind those of the files before.
+    /// The row of the newest revision of a file, where none is asked for, and it was seen behind those of the files
+    /// before.
     fn seen_row(
         &mut self,
         alloc: Global,
@@ -154,8 +156,9 @@ impl<'t> SeenRows<'t> {
         Ok(row)
     }
 
-    /// The revision that a file specification chooses of a file, and its row, None exactly where it passes the file over. Where it asks for none, that is
-    /// the newest one: what was seen behind those of the files before, or else it is searched.
+    /// The revision that a file specification chooses of a file, and its row, None exactly where it passes the file
+    /// over. Where it asks for none, that is the newest one: what was seen behind those of the files before, or else it
+    /// is searched.
     pub fn choice(
         &mut self,
         alloc: Global,
@@ -183,8 +186,9 @@ impl<'t> SeenRows<'t> {
         }
     }
 
-    /// The row of the revision that a file specification chooses of a file, with the place of its content, None exactly where it passes the file over or
-    /// chooses none. Where it asks for none, that is the row of the newest one: what was seen behind those of the files before, or else it is searched.
+    /// The row of the revision that a file specification chooses of a file, with the place of its content, None exactly
+    /// where it passes the file over or chooses none. Where it asks for none, that is the row of the newest one: what
+    /// was seen behind those of the files before, or else it is searched.
     pub fn chosen(
         &mut self,
         alloc: Global,

@@ -1,4 +1,5 @@
-//! The rows of revisions of files, as they were seen when the files were found. Where files are looked up in the same order, the rows are passed once.
+//! The rows of revisions of files, as they were seen when the files were found. Where files are looked up in the same
+//! order, the rows are passed once.
 
 ghost use Rattle.std.specs.Prelude.{◌≡◌, List, [], map, Contains, IfSome};
 ghost use Rattle.depot_rows.specs.db_records.declared.record.Record.{Record};

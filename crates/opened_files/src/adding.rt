@@ -118,8 +118,8 @@ impl<'a> FileFinder for FilesToAdd<'a> {
     }
 }
 
-/// The row that refuses a file that can't be made anew, since this client has it opened, or it is there, or another client has it opened alone, from
-/// the tables of opened files and revisions alone. The one error is want of memory.
+/// The row that refuses a file that can't be made anew, since this client has it opened, or it is there, or another
+/// client has it opened alone, from the tables of opened files and revisions alone. The one error is want of memory.
 pub(crate) fn new_refusal(
     alloc: Global,
     tables: &Tables,
@@ -195,8 +195,8 @@ fn type_or_text(alloc: Global, file_type: &Option<Text>) -> Result<Text, AllocEr
     }
 }
 
-/// `add [-c CHANGE] [-t TYPE] PATH...`: opens files that aren't there, to add them with a submit, each argument being a path, from the tables of
-/// changes, opened files and revisions alone. The one error is want of memory.
+/// `add [-c CHANGE] [-t TYPE] PATH...`: opens files that aren't there, to add them with a submit, each argument being a
+/// path, from the tables of changes, opened files and revisions alone. The one error is want of memory.
 pub fn add(
     alloc: Global,
     tables: &Tables,

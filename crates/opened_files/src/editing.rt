@@ -155,7 +155,8 @@ impl<'a> OpeningHad<'a> {
         }
     }
 
-    /// What is done with a file that isn't opened, from the revision that the client has, unless another client has it opened alone.
+    /// What is done with a file that isn't opened, from the revision that the client has, unless another client has it
+    /// opened alone.
     fn open_new(
         &self,
         alloc: Global,
@@ -249,8 +250,8 @@ fn open_had(
     within_files(alloc, done)
 }
 
-/// `edit [-c CHANGE] [-t TYPE] FILE...`: opens files that the client has for edit, from the tables of forms, have lists, opened files, changes
-/// and revisions alone. The one error is want of memory.
+/// `edit [-c CHANGE] [-t TYPE] FILE...`: opens files that the client has for edit, from the tables of forms, have
+/// lists, opened files, changes and revisions alone. The one error is want of memory.
 pub fn edit(
     alloc: Global,
     tables: &Tables,
@@ -277,7 +278,8 @@ pub fn edit(
     )
 }
 
-/// `delete [-c CHANGE] FILE...`: opens files that the client has for delete, from the same tables. The one error is want of memory.
+/// `delete [-c CHANGE] FILE...`: opens files that the client has for delete, from the same tables. The one error is
+/// want of memory.
 pub fn delete(
     alloc: Global,
     tables: &Tables,

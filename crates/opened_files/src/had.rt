@@ -22,8 +22,8 @@ pub(crate) fn own_text(text: &Text) -> Result<Text, AllocError>
     text.clone()
 }
 
-/// The type of the revision of a file that the caller's client has, `text` where it has none (Command-Line Reference, "p4 edit"), from the tables of
-/// have lists and revisions alone. The one error is want of memory.
+/// The type of the revision of a file that the caller's client has, `text` where it has none (Command-Line Reference,
+/// "p4 edit"), from the tables of have lists and revisions alone. The one error is want of memory.
 pub fn had_type(
     alloc: Global,
     tables: &Tables,

@@ -87,8 +87,8 @@ impl<'a> FileAct for Locking<'a> {
     ghost next = { λ locking d e argument path later. lock_stays d e locking.caller.now path later };
 }
 
-/// `lock [-c CHANGE] FILE...`: locks files that the client has opened, in the change where one is given, so that no other client submits them, from
-/// the table of opened files alone. The one error is want of memory.
+/// `lock [-c CHANGE] FILE...`: locks files that the client has opened, in the change where one is given, so that no
+/// other client submits them, from the table of opened files alone. The one error is want of memory.
 pub fn lock(
     alloc: Global,
     tables: &Tables,

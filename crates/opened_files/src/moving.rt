@@ -480,8 +480,8 @@ impl<'a> TurnAct for Moving<'a> {
     }
 }
 
-/// `move [-c CHANGE] FROM TO`: files that the client has opened are opened elsewhere, from the tables of forms, opened files, changes and revisions
-/// alone. The one error is want of memory.
+/// `move [-c CHANGE] FROM TO`: files that the client has opened are opened elsewhere, from the tables of forms, opened
+/// files, changes and revisions alone. The one error is want of memory.
 pub fn move_files(
     alloc: Global,
     tables: &Tables,

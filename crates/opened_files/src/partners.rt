@@ -45,8 +45,8 @@ pub(crate) fn is_end(end: &Option<DepotPath>, path: &DepotPath) -> bool
     }
 }
 
-/// The file at the other end of a move, where the client has it opened and it names the file back (Command-Line Reference, "p4 move"), from the table
-/// of opened files alone. The one error is want of memory.
+/// The file at the other end of a move, where the client has it opened and it names the file back (Command-Line
+/// Reference, "p4 move"), from the table of opened files alone. The one error is want of memory.
 pub fn partner_of(
     alloc: Global,
     tables: &Tables,

@@ -81,8 +81,8 @@ impl<'a> FileAct for Reopening<'a> {
     ghost next = { λ reopening d e argument path later. tt };
 }
 
-/// `reopen [-c CHANGE] [-t TYPE] FILE...`: moves files that the client has opened into another change, or gives them another type, from the tables
-/// of changes and opened files alone. The one error is want of memory.
+/// `reopen [-c CHANGE] [-t TYPE] FILE...`: moves files that the client has opened into another change, or gives them
+/// another type, from the tables of changes and opened files alone. The one error is want of memory.
 pub fn reopen(
     alloc: Global,
     tables: &Tables,

@@ -226,8 +226,9 @@ fn revert_over(
     Ok(step)
 }
 
-/// `revert [-c CHANGE] FILE...`: the client has files opened no more, in the change where one is given, each with the other end of its move, from
-/// the tables of have lists and opened files alone. The have list stays. The one error is want of memory.
+/// `revert [-c CHANGE] FILE...`: the client has files opened no more, in the change where one is given, each with the
+/// other end of its move, from the tables of have lists and opened files alone. The have list stays. The one error is
+/// want of memory.
 pub fn revert(
     alloc: Global,
     tables: &Tables,

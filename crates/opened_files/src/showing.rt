@@ -127,8 +127,8 @@ impl<'a> FileAct for Showing<'a> {
     ghost next = { λ showing d e argument path later. tt };
 }
 
-/// `opened [-a] [FILE...]`: the files that the client has opened, with `-a` those of all clients, from the table of opened files alone.
-/// The one error is want of memory.
+/// `opened [-a] [FILE...]`: the files that the client has opened, with `-a` those of all clients, from the table of
+/// opened files alone. The one error is want of memory.
 pub fn opened(
     alloc: Global,
     tables: &Tables,

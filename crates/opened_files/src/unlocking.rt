@@ -77,8 +77,8 @@ impl<'a> FileAct for Unlocking<'a> {
     ghost next = { λ unlocking d e argument path later. tt };
 }
 
-/// `unlock [-c CHANGE] FILE...`: frees the client's locks of files that it has opened, in the change where one is given, from the table of
-/// opened files alone. The one error is want of memory.
+/// `unlock [-c CHANGE] FILE...`: frees the client's locks of files that it has opened, in the change where one is
+/// given, from the table of opened files alone. The one error is want of memory.
 pub fn unlock(
     alloc: Global,
     tables: &Tables,

@@ -1,4 +1,5 @@
-//! What commands share that open files: refusals of a file, the row of an opening, the type of a revision, copies of names and paths.
+//! What commands share that open files: refusals of a file, the row of an opening, the type of a revision, copies of
+//! names and paths.
 //!
 //! The one error of each call is want of memory.
 #![tactic(auto)]

@@ -40,8 +40,8 @@ fn with_place(row: RowBuilder, place: Option<&ClientPath>) -> Result<RowBuilder,
     }
 }
 
-/// The row of a file that is opened, with its place in the client, where it has one (Command-Line Reference, "p4 edit", "p4 add"). The one error is
-/// want of memory.
+/// The row of a file that is opened, with its place in the client, where it has one (Command-Line Reference, "p4 edit",
+/// "p4 add"). The one error is want of memory.
 pub fn opening_row(
     alloc: Global,
     opening: &Opening,

@@ -47,8 +47,8 @@ pub fn unseen_row(alloc: Global, path: &DepotPath) -> Result<Row, AllocError>
     Ok(row)
 }
 
-/// The row that refuses a file that another client has opened, where the type of its opening or the new one is exclusive (Command-Line Reference,
-/// "File types"), from the table of opened files alone.
+/// The row that refuses a file that another client has opened, where the type of its opening or the new one is
+/// exclusive (Command-Line Reference, "File types"), from the table of opened files alone.
 pub fn exclusive_refusal(
     alloc: Global,
     tables: &Tables,

@@ -38,8 +38,9 @@ fn add_opening(
     Ok(())
 }
 
-/// The openings of a client in a change, 0 for the default one, in the order of their paths (Command-Line Reference, "p4 opened", "p4 submit"), from
-/// the table of opened files alone. It walks over the rows of the client's openings. The one error is want of memory.
+/// The openings of a client in a change, 0 for the default one, in the order of their paths (Command-Line Reference,
+/// "p4 opened", "p4 submit"), from the table of opened files alone. It walks over the rows of the client's openings.
+/// The one error is want of memory.
 pub fn openings_of(
     alloc: Global,
     tables: &Tables,

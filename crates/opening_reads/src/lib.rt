@@ -1,5 +1,5 @@
-//! What the rows of opened files tell: the opening of a row, as the deed that opened the file has it, the openings of a client in a change, what a
-//! client has opened within a command, and the resolves of a file.
+//! What the rows of opened files tell: the opening of a row, as the deed that opened the file has it, the openings of a
+//! client in a change, what a client has opened within a command, and the resolves of a file.
 #![tactic(auto)]
 
 mod files;

@@ -43,8 +43,9 @@ fn as_resolve<'a>(row: Option<&'a Record>) -> Option<&'a ResolveRecord>
     }
 }
 
-/// The row of the resolve of a file from another one that a client owes or paid, None exactly where there is none since the client opened the file
-/// (Command-Line Reference, "p4 resolve"), from the table of resolves alone. The one error is want of memory.
+/// The row of the resolve of a file from another one that a client owes or paid, None exactly where there is none since
+/// the client opened the file (Command-Line Reference, "p4 resolve"), from the table of resolves alone. The one error
+/// is want of memory.
 pub fn owed_of<'a>(
     alloc: Global,
     tables: &'a Tables,

@@ -23,8 +23,9 @@ use file_openings::opening_of;
 use std::alloc::{AllocError, Global};
 use std::collections::BTreeMap;
 
-/// What a client has opened after the deeds that a command has made for it so far. The tables stay those of the depot before the command; what
-/// the deeds changed of the client's openings stands here. What it costs follows the files that were opened and shut.
+/// What a client has opened after the deeds that a command has made for it so far. The tables stay those of the depot
+/// before the command; what the deeds changed of the client's openings stands here. What it costs follows the files
+/// that were opened and shut.
 pub struct OwnOpenings {
     /// Each file that was opened or shut, with its opening, or none where it was shut last.
     pub(crate) changed: BTreeMap<DepotPath, Option<Opening>>,
@@ -120,8 +121,8 @@ fn own_or_none(opening: &Option<Opening>) -> Result<Option<Opening>, AllocError>
     }
 }
 
-/// The opening of a file by a client, None exactly where it hasn't the file opened (Command-Line Reference, "p4 opened"), from the table of opened
-/// files alone. The one error is want of memory.
+/// The opening of a file by a client, None exactly where it hasn't the file opened (Command-Line Reference, "p4
+/// opened"), from the table of opened files alone. The one error is want of memory.
 pub fn opening_by(
     alloc: Global,
     tables: &Tables,
@@ -164,8 +165,8 @@ impl OwnOpenings {
         }
     }
 
-    /// The client's opening of a file, None exactly where it hasn't the file opened, from the table of opened files alone. The one error, here and
-    /// below, is want of memory.
+    /// The client's opening of a file, None exactly where it hasn't the file opened, from the table of opened files
+    /// alone. The one error, here and below, is want of memory.
     pub fn opening(
         &self,
         alloc: Global,

@@ -78,7 +78,8 @@ fn change_in(change: Option<u32>, own: u32) -> u32
     }
 }
 
-/// The opening of a row of a client and a file, in another change and with another type where they are given. The one error is want of memory.
+/// The opening of a row of a client and a file, in another change and with another type where they are given. The one
+/// error is want of memory.
 pub fn reopened_in(
     alloc: Global,
     client: &Name,

@@ -65,8 +65,8 @@ fn any_unpaid(alloc: Global, tables: &Tables, range: &KeyRange) -> Result<bool, 
     Ok(false)
 }
 
-/// Whether a client owes a resolve of a file that it has opened (Command-Line Reference, "p4 resolve"), from the table of resolves alone. It reads
-/// the rows of that file.
+/// Whether a client owes a resolve of a file that it has opened (Command-Line Reference, "p4 resolve"), from the table
+/// of resolves alone. It reads the rows of that file.
 pub fn owes_resolve(
     alloc: Global,
     tables: &Tables,
@@ -144,8 +144,8 @@ fn owings_in(
     Ok(owings)
 }
 
-/// The resolves that a client owes of a file that it has opened (Command-Line Reference, "p4 resolve"), in the order of the files that they come
-/// from, from the table of resolves alone. It reads the rows of that file.
+/// The resolves that a client owes of a file that it has opened (Command-Line Reference, "p4 resolve"), in the order of
+/// the files that they come from, from the table of resolves alone. It reads the rows of that file.
 pub fn owed_resolves(
     alloc: Global,
     tables: &Tables,

@@ -87,8 +87,8 @@ fn end_taken<D, S, K: Sink>(
     }
 }
 
-/// The end of a checkpoint that wasn't taken. Where the disk has failed meanwhile it has this order, and is told by the line of a fault alone; where
-/// there was no memory nothing was done.
+/// The end of a checkpoint that wasn't taken. Where the disk has failed meanwhile it has this order, and is told by the
+/// line of a fault alone; where there was no memory nothing was done.
 fn end_untaken<D, S, K: Sink>(
     alloc: Global,
     fault: TakingFault,
@@ -120,8 +120,8 @@ fn end_untaken<D, S, K: Sink>(
     }
 }
 
-/// Begins the next generation of the files, as party 0 with its first command, and asks for no rights. Where the disk fails meanwhile the
-/// place is a fault.
+/// Begins the next generation of the files, as party 0 with its first command, and asks for no rights. Where the disk
+/// fails meanwhile the place is a fault.
 pub fn checkpoint<D: Disk, S, K: Sink, C: Clock>(
     alloc: Global,
     journal: D,

@@ -143,7 +143,8 @@ fn any_faulty<K>(parties: &[PartyEnd<K>]) -> bool
     parties.iter().any(|party| is_faulty(party.end))
 }
 
-/// The cause to which the places of the order and the ends of the parties lead, and whether a replica was answered that a disk failed.
+/// The cause to which the places of the order and the ends of the parties lead, and whether a replica was answered that
+/// a disk failed.
 pub fn cause_of<K>(order: &[Place], parties: &[PartyEnd<K>], lost: bool) -> Cause
     ensures { result ≡ ends_cause order.now parties.now lost }
 {

@@ -9,9 +9,10 @@ ghost use Rattle.program_words.specs.Words.{asked, init};
 
 use outside_api::{Clock, Disk, Doors};
 
-/// Runs follow one another: after an `init` that ends well over an empty root, and then after each run of whatever words, the disks tell what they read, and
-/// each pair of images that they may leave stands for a depot and was written from the first change on. The next run, over these disks or over what a stop
-/// left of them, reads such a pair, so that its replicas are promised their replies.
+/// Runs follow one another: after an `init` that ends well over an empty root, and then after each run of whatever
+/// words, the disks tell what they read, and each pair of images that they may leave stands for a depot and was written
+/// from the first change on. The next run, over these disks or over what a stop left of them, reads such a pair, so
+/// that its replicas are promised their replies.
 pub fn runs_follow_one_another<H: Doors, D: Disk, C: Clock>(clock: &C)
     ensures begun { (old_doors new_doors : H) (words : List (List ℕ)) (before : Before D H.Out) (after : After D H.In H.Out) → asked words ≡ Some init →
         KeepsPromise (record { disk = D.says; source = H.In.says; sink = H.Out.says; doors = H.says; may_give = C.says.may_give clock.now }) old_doors new_doors words before after →

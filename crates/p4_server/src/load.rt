@@ -226,8 +226,9 @@ fn load_files<D: Disk, S, K: Sink, C: Clock, G: Gate>(
     }
 }
 
-/// Makes the files where there are none, runs the script of a seed and a number of steps over them as the session of party 1, and prints four lines: how
-/// many commands the script has, and how many changes, live files and bytes of content the depot has then. The replies go nowhere.
+/// Makes the files where there are none, runs the script of a seed and a number of steps over them as the session of
+/// party 1, and prints four lines: how many commands the script has, and how many changes, live files and bytes of
+/// content the depot has then. The replies go nowhere.
 pub fn load<D: Disk, S, K: Sink, C: Clock, G: Gate>(
     alloc: Global,
     seed: u32,

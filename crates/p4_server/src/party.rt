@@ -179,7 +179,8 @@ pub struct Served<D: Disk, S, K> {
     pub run: Result<PartiesRun<S, K>, NotRun>,
 }
 
-/// Opens the doors of the names, reads all scripts and takes their commands, by turns that the seed draws. Where the parties aren't run, nothing is taken.
+/// Opens the doors of the names, reads all scripts and takes their commands, by turns that the seed draws. Where the
+/// parties aren't run, nothing is taken.
 pub fn run_parties<H: Doors, D: Disk, C: Clock, G: Gate>(
     alloc: Global,
     seed: u32,

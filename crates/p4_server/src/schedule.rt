@@ -16,8 +16,8 @@ use recovery::{Opened, open_files};
 use serial_depot::{Closed, SerialDepot};
 use std::alloc::Global;
 
-/// Runs the scripts of 1 to 16 different names over the files of the depot, by turns that the seed draws, and tells the order and the ends. Party i is the
-/// i-th name, from 1. No door is asked before the files are open.
+/// Runs the scripts of 1 to 16 different names over the files of the depot, by turns that the seed draws, and tells the
+/// order and the ends. Party i is the i-th name, from 1. No door is asked before the files are open.
 pub fn schedule<H: Doors, D: Disk, C: Clock, G: Gate>(
     alloc: Global,
     seed: u32,

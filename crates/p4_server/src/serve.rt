@@ -19,8 +19,8 @@ use std::alloc::Global;
 use std::sync::Wait;
 use std::thread::Threads;
 
-/// Runs the scripts of 1 to 16 different names over the files of the depot, each on a thread of its own, and tells the order and the ends. Party i is the
-/// i-th name, from 1. No door is asked before the files are open.
+/// Runs the scripts of 1 to 16 different names over the files of the depot, each on a thread of its own, and tells the
+/// order and the ends. Party i is the i-th name, from 1. No door is asked before the files are open.
 pub fn serve<R: Threads + Wait + Sync, H: Doors, D: Disk + Send, C: Clock + Sync, G: Gate + Sync>(
     rt: &R,
     alloc: Global,

@@ -23,8 +23,8 @@ use std::alloc::Global;
 use std::sync::Wait;
 use std::thread::Threads;
 
-/// Opens the doors of the names, reads all scripts and has their commands taken or answered, those of each party on a thread of its own. Where the parties
-/// aren't run, nothing is taken.
+/// Opens the doors of the names, reads all scripts and has their commands taken or answered, those of each party on a
+/// thread of its own. Where the parties aren't run, nothing is taken.
 pub fn serve_parties<
     R: Threads + Wait + Sync,
     H: Doors,

@@ -13,7 +13,8 @@ use shared_depot::{BothMarks, Serving, SharedDepot};
 use std::alloc::{AllocError, Global};
 use std::sync::Wait;
 
-/// Answers the next command of a replica, which has this number, and gives its sink the reply. Answers whether the sink has failed.
+/// Answers the next command of a replica, which has this number, and gives its sink the reply. Answers whether the sink
+/// has failed.
 fn answer_command<R: Wait, D: Disk, K: Sink, N: Serving>(
     rt: &R,
     alloc: Global,
@@ -34,8 +35,8 @@ fn answer_command<R: Wait, D: Disk, K: Sink, N: Serving>(
     }
 }
 
-/// Answers the commands of a replica, one after another, as long as its sink takes the replies. The party makes a mark where an answer tells that a disk
-/// failed.
+/// Answers the commands of a replica, one after another, as long as its sink takes the replies. The party makes a mark
+/// where an answer tells that a disk failed.
 pub(crate) fn answer_commands<R: Wait, D: Disk, K: Sink, C: Clock, N: Serving>(
     rt: &R,
     alloc: Global,

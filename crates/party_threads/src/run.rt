@@ -57,7 +57,8 @@ pub(crate) struct Brought {
     pub(crate) words: RunWords,
 }
 
-/// How many places each party may have: as many as its session has requests, each of which gets at most one. The one error is want of memory.
+/// How many places each party may have: as many as its session has requests, each of which gets at most one. The one
+/// error is want of memory.
 fn places_for(alloc: Global, requests: &[Vec<Request>]) -> Result<Vec<u64>, AllocError>
     ensures { IfOk result (λ places. places.items ≡ map (λ own. length own.items) requests.now) }
 {
@@ -68,8 +69,8 @@ fn places_for(alloc: Global, requests: &[Vec<Request>]) -> Result<Vec<u64>, Allo
     Ok(places)
 }
 
-/// The requests of sessions and the replicas of scripts, whose parties are numbered from 1, how many places each party may have, and words for as many
-/// parties. The one error is want of memory.
+/// The requests of sessions and the replicas of scripts, whose parties are numbered from 1, how many places each party
+/// may have, and words for as many parties. The one error is want of memory.
 fn bring<C: Clock>(
     alloc: Global,
     sessions: Vec<Option<Session>>,
@@ -114,13 +115,15 @@ fn bring<C: Clock>(
     }
 }
 
-/// Takes the commands of sessions and has replicas answer theirs, each party on a thread of its own where one can be started, and gives each reply to the sink
-/// of its party. Parties are numbered from 1, in the order of both lists, of which each party has a place in either; one whose script has no head is in neither
-/// and asks nothing. All requests are made, and room for their places, before the first thread is started; the moment of a session's command is read when it is
-/// taken, that of a replica's before. A command of a session whose commit failed has a fault place; one that finds no memory is answered so and has no place. A
-/// replica has the rows of the files inside its filter, as far as it has followed the journal of this depot, while sessions commit; its commands have no place.
-/// A party whose sink failed takes no further command. Where no thread can be started, the caller's runs the party. The one error is want of memory before the
-/// first thread; it gives back the depot, with which nothing was done.
+/// Takes the commands of sessions and has replicas answer theirs, each party on a thread of its own where one can be
+/// started, and gives each reply to the sink of its party. Parties are numbered from 1, in the order of both lists, of
+/// which each party has a place in either; one whose script has no head is in neither and asks nothing. All requests
+/// are made, and room for their places, before the first thread is started; the moment of a session's command is read
+/// when it is taken, that of a replica's before. A command of a session whose commit failed has a fault place; one that
+/// finds no memory is answered so and has no place. A replica has the rows of the files inside its filter, as far as it
+/// has followed the journal of this depot, while sessions commit; its commands have no place. A party whose sink failed
+/// takes no further command. Where no thread can be started, the caller's runs the party. The one error is want of
+/// memory before the first thread; it gives back the depot, with which nothing was done.
 pub fn run_on_threads<
     R: Threads + Wait + Sync,
     D: Disk + Send,
@@ -152,8 +155,9 @@ pub fn run_on_threads<
         IfOk result (λ ran. AreServed (C.says.may_give clock.now) sessions.items replicas.items start ran.runs.items (map K.says.given sinks.items) (map K.says.given ran.sinks.items) ran.order.items) }
     ensures replicas { (since : ℕ) (start : List Deed) → All (λ session. AreWellFormed (commands_of session)) sessions.items → All (λ script. AreWellFormed (replica_commands script)) replicas.items → HasRun D.says depot since start [] →
         IfOk result (λ ran. AreReplicasServed D.says (C.says.may_give clock.now) sessions.items replicas.items since start ran.order.items (λ party. None) ran.runs.items ran.lost (λ failures. HaveRisenBy failures (D.says.faults (disk_of depot.journal)) (D.says.faults (disk_of ran.depot.journal)) (D.says.faults (archive_disk_of depot.archive)) (D.says.faults (archive_disk_of ran.depot.archive))) (map K.says.given sinks.items) (map K.says.given ran.sinks.items)) }
-    // Along a depot that they follow the replies of replicas are, but for those to `pull`, those of the depot after its first changes, as many as the last
-    // `pull` told, cut to their filters; and each `pull` that tells a position took of the journal as it was then.
+    // Along a depot that they follow the replies of replicas are, but for those to `pull`, those of the depot after its
+    // first changes, as many as the last `pull` told, cut to their filters; and each `pull` that tells a position took
+    // of the journal as it was then.
     ensures told { (past : Past) (since : ℕ) (start : List Deed) (c : Chronicle) → All (λ session. AreWellFormed (commands_of session)) sessions.items → All (λ script. AreWellFormed (replica_commands script)) replicas.items →
         HasRun D.says depot since start [] → IsMaster D.says past start [] depot c →
         IfOk result (λ ran. AreReplicasTold past start sessions.items replicas.items (C.says.may_give clock.now) ran.order.items (λ party. None) ran.runs.items (map K.says.given sinks.items) (map K.says.given ran.sinks.items)) }
@@ -165,8 +169,8 @@ pub fn run_on_threads<
 
     ensures ends { IfOk result (λ ran. AreEnds K.says sessions.items replicas.items ran.runs.items sinks.items ran.sinks.items) }
 
-    // There are at most as many fault places as the counts of the two disks rose, and a replica was answered that a disk failed only where one of them rose.
-    // Where neither is, both stand.
+    // There are at most as many fault places as the counts of the two disks rose, and a replica was answered that a
+    // disk failed only where one of them rose. Where neither is, both stand.
     ensures faults { IfOk result (λ ran. AreCaused (D.says.faults (disk_of depot.journal)) (D.says.faults (disk_of ran.depot.journal)) (D.says.faults (archive_disk_of depot.archive)) (D.says.faults (archive_disk_of ran.depot.archive)) [] ran.order.items) }
     ensures stand { IfOk result (λ ran. ran.lost ≡ false → StandWithoutFaults (D.says.faults (disk_of depot.journal)) (D.says.faults (disk_of ran.depot.journal)) (D.says.faults (archive_disk_of depot.archive)) (D.says.faults (archive_disk_of ran.depot.archive)) [] ran.order.items) }
     ensures lost { IfOk result (λ ran. ran.lost ≡ true → OneHasRisen (D.says.faults (disk_of depot.journal)) (D.says.faults (disk_of ran.depot.journal)) (D.says.faults (archive_disk_of depot.archive)) (D.says.faults (archive_disk_of ran.depot.archive))) }

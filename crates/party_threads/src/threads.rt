@@ -63,7 +63,8 @@ fn run_parties<
     );
 }
 
-/// Hears what a party knows, and puts what it leaves behind what others left. Answers whether it was told that a disk failed. It takes no memory.
+/// Hears what a party knows, and puts what it leaves behind what others left. Answers whether it was told that a disk
+/// failed. It takes no memory.
 fn hear_party<D: Disk, K: Sink + Drop, N: Serving>(
     depot: &mut OpenedDepot<D, N>,
     party: ThreadParty<K, N>,
@@ -107,7 +108,8 @@ fn either(first: bool, second: bool) -> bool
     first || second
 }
 
-/// Hears what each party knows, and puts together what the parties leave. Answers whether one was told that a disk failed. It takes no memory.
+/// Hears what each party knows, and puts together what the parties leave. Answers whether one was told that a disk
+/// failed. It takes no memory.
 fn collect<D: Disk, K: Sink + Drop, N: Serving>(
     depot: &mut OpenedDepot<D, N>,
     parties: Vec<ThreadParty<K, N>>,
@@ -205,8 +207,8 @@ fn run_and_close<
     }
 }
 
-/// Runs all parties, numbered from 1, over a depot. The one error is want of memory before the first thread; it gives back the depot, with which nothing was
-/// done.
+/// Runs all parties, numbered from 1, over a depot. The one error is want of memory before the first thread; it gives
+/// back the depot, with which nothing was done.
 pub(crate) fn run_named<
     R: Threads + Wait + Sync,
     D: Disk + Send,

@@ -12,10 +12,10 @@ use std::io;
 use std::io::ErrorKind;
 use std::rt::Files;
 
-/// The files of a folder, each of which is named by its number in decimal, for one program at a time. A file that
-/// isn't there has no bytes, and neither the folder nor a file is made before something is written. The folder may be
-/// a link to one, and so may a file that is read. What is no regular file isn't opened, and a file that is a link or has
-/// a second name isn't written: the call fails. It doesn't tell what the files hold. Once it is made its calls take no
+/// The files of a folder, each of which is named by its number in decimal, for one program at a time. A file that isn't
+/// there has no bytes, and neither the folder nor a file is made before something is written. The folder may be a link
+/// to one, and so may a file that is read. What is no regular file isn't opened, and a file that is a link or has a
+/// second name isn't written: the call fails. It doesn't tell what the files hold. Once it is made its calls take no
 /// memory.
 ///
 /// Before the first other call it takes the advisory lock of the folder (`flock`, exclusive), and keeps it until it

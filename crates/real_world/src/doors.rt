@@ -42,8 +42,8 @@ struct Party {
 
 /// The files of the current folder for the parties of these names: a party NAME has its script in the file NAME, which
 /// may be anything that can be read, and its replies go to the file `NAME.out`, which is made, or emptied where it is a
-/// regular file that is no link and has no other name. It doesn't tell what they hold. Once it is made its calls take no
-/// memory.
+/// regular file that is no link and has no other name. It doesn't tell what they hold. Once it is made its calls take
+/// no memory.
 ///
 /// The first door opens the files of all names, and locks them (`flock`) until they are closed: the scripts for all who
 /// read, the replies for this party alone. It fails where one can't be opened, or another has the lock, and before any

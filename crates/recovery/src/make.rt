@@ -29,10 +29,12 @@ pub fn make_files<D: Disk>(journal: &mut D, archive: &mut D) -> Result<(), MakeF
     ensures archive_told { StillTells (D.says.seen archive.old) (D.says.seen archive.new) }
     // The journal's other files are as they were read.
     ensures others { OnOk result (Follows SameOthers (D.says.seen journal.old) (D.says.may_leave journal.new)) }
-    // Whatever is answered, at every moment they stay as they were, and so does the root until the rest is that of an empty depot.
+    // Whatever is answered, at every moment they stay as they were, and so does the root until the rest is that of an
+    // empty depot.
     ensures images { Follows IsMaking (D.says.may_leave journal.old) (D.says.may_leave journal.new) }
     ensures any_moment { LeavesOnly D.says journal.old journal.new (After IsMaking (D.says.may_leave journal.old)) }
-    // Whatever is answered, each image of the archive, at every moment, is one that it had, and it reads as before unless its sync failed.
+    // Whatever is answered, each image of the archive, at every moment, is one that it had, and it reads as before
+    // unless its sync failed.
     ensures archive_looks { LooksOnly D.says archive.old archive.new }
     ensures archive_reads { Same (D.says.seen archive.old) (D.says.seen archive.new) ⊎ ((result ≡ Err DiskFault) × HasRisen (D.says.faults archive.old) (D.says.faults archive.new)) }
     ensures unmade { (files : Files) → D.says.seen journal.old files → OnOk result (length (files 0) ≡ 0) }

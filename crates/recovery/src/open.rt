@@ -97,7 +97,8 @@ pub fn open_files<D: Disk>(alloc: Global, journal: D, archive: D) -> Result<Open
     ensures suit { IfOk result (λ opened. SuitFiles (generation_of_journal opened.journal) (rows_of opened.tables)) }
     // So the files hold them whole.
     ensures whole { (files contents : Files) → D.says.seen journal files → D.says.seen archive contents → IfOk result (λ opened. HoldWhole files contents (rows_of opened.tables)) }
-    // Files that hold rows that suit them, and their contents, are opened, and so those are that stand for a depot: the rows then stand for it.
+    // Files that hold rows that suit them, and their contents, are opened, and so those are that stand for a depot: the
+    // rows then stand for it.
     ensures opens { (files contents : Files) (rows : AllRows) → D.says.seen journal files → D.says.seen archive contents → HoldWhole files contents rows → OpensOrSaysNothing result }
     ensures stands { (files contents : Files) (d : List Deed) → D.says.seen journal files → D.says.seen archive contents → StandFor d files contents →
         OpensOrSaysNothing result × IfOk result (λ opened. Stand (rows_of opened.tables) d) }

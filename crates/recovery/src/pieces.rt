@@ -216,8 +216,8 @@ impl FileGroups {
         }
     }
 
-    /// Takes the head of the group with which the file goes on, without a mark before it, and answers how many bytes the
-    /// group's records have; or the place from which the text can't be read on.
+    /// Takes the head of the group with which the file goes on, without a mark before it, and answers how many bytes
+    /// the group's records have; or the place from which the text can't be read on.
     pub(crate) fn next_head<D: Disk>(
         &mut self,
         alloc: Global,
@@ -251,8 +251,8 @@ impl FileGroups {
 
     /// Takes the record with which the file goes on, of a group of which so many bytes of records are to come.
     ///
-    /// A record that isn't whole is read from its begin again once there is as much of it again, or a piece more: so each
-    /// byte is read a bounded number of times on average.
+    /// A record that isn't whole is read from its begin again once there is as much of it again, or a piece more: so
+    /// each byte is read a bounded number of times on average.
     pub(crate) fn next_record<D: Disk>(
         &mut self,
         alloc: Global,

@@ -39,8 +39,8 @@ pub(crate) fn put_waiting(
     }
 }
 
-/// Has a change wait to be made in a draft, where it puts a row above the one of the put that waited, which it makes. Tells whether it
-/// does. The one error is want of memory, after which nothing is said of the draft.
+/// Has a change wait to be made in a draft, where it puts a row above the one of the put that waited, which it makes.
+/// Tells whether it does. The one error is want of memory, after which nothing is said of the draft.
 pub(crate) fn put_above(
     alloc: Global,
     draft: &mut TablesDraft,

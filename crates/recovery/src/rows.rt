@@ -43,8 +43,8 @@ fn empty_draft(alloc: Global) -> Result<TablesDraft, AllocError>
     TablesDraft::of(alloc, &tables)
 }
 
-/// Makes changes in a draft one after another as far as they fit, and answers how many it made. The one error is want of memory, after which
-/// nothing is said of the draft.
+/// Makes changes in a draft one after another as far as they fit, and answers how many it made. The one error is want
+/// of memory, after which nothing is said of the draft.
 pub fn make_fitting(
     alloc: Global,
     draft: &mut TablesDraft,
@@ -115,8 +115,8 @@ fn take_changes(
     Ok(())
 }
 
-/// Takes the next record of a checkpoint, of which so many bytes are to come, makes its put in a draft, and answers how many
-/// bytes are behind it.
+/// Takes the next record of a checkpoint, of which so many bytes are to come, makes its put in a draft, and answers how
+/// many bytes are behind it.
 fn put_next<D: Disk>(
     alloc: Global,
     disk: &mut D,

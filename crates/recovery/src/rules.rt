@@ -32,7 +32,8 @@ fn suit_files(alloc: Global, found: &Found) -> Result<bool, AllocError>
     Ok(keep && unplaced && told == found.generation as u64)
 }
 
-/// Checks that the rows that were read suit the files. Where they don't, the journal is damaged at the end of its committed text.
+/// Checks that the rows that were read suit the files. Where they don't, the journal is damaged at the end of its
+/// committed text.
 fn check_rules(alloc: Global, found: &Found) -> Result<(), OpenFault>
     requires last { found.now.generation ≤ 4095 }
     ensures suit { OnOk result (SuitFiles found.now.generation (rows_of found.now.tables)) }

@@ -48,8 +48,8 @@ fn evaluated(alloc: Global, tables: &Tables, request: &Request) -> Result<Reply,
     Ok(reply)
 }
 
-/// What a replica answers to a command other than `pull`, from its own rows, where a row that lacks its content has an empty one: it turns away each
-/// command that would change a row. Nothing is changed. The one error is want of memory.
+/// What a replica answers to a command other than `pull`, from its own rows, where a row that lacks its content has an
+/// empty one: it turns away each command that would change a row. Nothing is changed. The one error is want of memory.
 pub(crate) fn waiting_reply(
     alloc: Global,
     replica: &Replica,
@@ -68,8 +68,8 @@ pub(crate) fn waiting_reply(
     }
 }
 
-/// What a replica answers to a command other than `pull` and `print`, from its own rows: it turns away each that would change a row. Nothing is changed.
-/// The one error is want of memory.
+/// What a replica answers to a command other than `pull` and `print`, from its own rows: it turns away each that would
+/// change a row. Nothing is changed. The one error is want of memory.
 pub fn answer(alloc: Global, replica: &Replica, request: &Request) -> Result<Reply, AllocError>
     requires { prints request.now.command ≡ false }
     ensures { IfOk result (λ reply. (d : List Deed) → Stand (rows_of replica.now.tables) d → IsFormedBy request.now → reply.rows ≡ replica_reply d request.now) }

@@ -237,9 +237,9 @@ fn fill_rows<C: Contents>(
     })
 }
 
-/// What a replica answers to a `print`, from its own rows and with contents of the archive of the depot that it follows, each of which has the digest of
-/// its revision. Where the spot of a revision that is printed ends behind what is used of the archive, or its bytes have another digest, the fault tells
-/// where it begins.
+/// What a replica answers to a `print`, from its own rows and with contents of the archive of the depot that it
+/// follows, each of which has the digest of its revision. Where the spot of a revision that is printed ends behind what
+/// is used of the archive, or its bytes have another digest, the fault tells where it begins.
 pub fn answer_print<C: Contents>(
     alloc: Global,
     replica: &Replica,

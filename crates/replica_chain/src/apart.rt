@@ -116,7 +116,8 @@ fn compare_generation<D: Disk>(
     Ok(Compared::Open)
 }
 
-/// The first generation and place at which the committed text of a node's journal departs from another's. It takes no memory.
+/// The first generation and place at which the committed text of a node's journal departs from another's. It takes no
+/// memory.
 fn first_departure<D: Disk>(
     node: &mut Journal<D>,
     up: &mut Journal<D>,
@@ -142,8 +143,9 @@ fn first_departure<D: Disk>(
 }
 
 impl<D: Disk> Node<D> {
-    /// The first generation and place at which the committed text of this node's journal departs from another's: where it differs, where it goes on past it,
-    /// or where it is closed and the other isn't closed there. It takes no memory.
+    /// The first generation and place at which the committed text of this node's journal departs from another's: where
+    /// it differs, where it goes on past it, or where it is closed and the other isn't closed there. It takes no
+    /// memory.
     pub fn departs(&mut self, up: &mut Node<D>) -> Result<Option<Departure>, DiskFault>
         ensures exactly { (texts others : List (List ℕ)) → HasTexts D.says self.old.link.journal texts → HasTexts D.says up.old.link.journal others → IfOk result (IsComparison texts others) }
         // Both journals were only looked at, and what the nodes have they still have.

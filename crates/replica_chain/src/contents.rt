@@ -101,7 +101,8 @@ fn copy_piece<D: Disk, C: Contents>(
     Ok(())
 }
 
-/// Copies the bytes of an archive from the end of what is used of the copy to a place, piece by piece. They aren't counted as used yet.
+/// Copies the bytes of an archive from the end of what is used of the copy to a place, piece by piece. They aren't
+/// counted as used yet.
 fn copy_contents<D: Disk, C: Contents>(
     alloc: Global,
     contents: &mut C,
@@ -194,7 +195,8 @@ fn check_contents<D: Disk>(
     Ok(())
 }
 
-/// Brings the contents that changes name to their spots: copies what isn't there, checks all of them, and counts them as used.
+/// Brings the contents that changes name to their spots: copies what isn't there, checks all of them, and counts them
+/// as used.
 pub(crate) fn bring_contents<D: Disk, C: Contents>(
     alloc: Global,
     contents: &mut C,

@@ -156,7 +156,8 @@ fn fetch_some<D: Disk>(
     }
 }
 
-/// Counts the groups and bytes of a generation, through a buffer. As many bytes as all files together can't have are answered as want of memory.
+/// Counts the groups and bytes of a generation, through a buffer. As many bytes as all files together can't have are
+/// answered as want of memory.
 fn count_generation<D: Disk>(
     alloc: Global,
     journal: &mut Journal<D>,
@@ -184,7 +185,8 @@ fn count_generation<D: Disk>(
     Ok(count)
 }
 
-/// The one, with those of a generation behind it. As many bytes as all files together can't have are answered as want of memory.
+/// The one, with those of a generation behind it. As many bytes as all files together can't have are answered as want
+/// of memory.
 fn counted_on(before: Count, more: Count) -> Result<Count, AllocError>
     ensures { IfOk result (λ count. (count.groups ≡ before.groups + more.groups) × (count.bytes ≡ before.bytes + more.bytes)) }
 {
@@ -225,7 +227,8 @@ fn count_through<D: Disk>(
     Ok(Counts { before, newest })
 }
 
-/// Counts the groups and bytes of all generations. Of a generation whose file wasn't written as a journal's is, nothing is said.
+/// Counts the groups and bytes of all generations. Of a generation whose file wasn't written as a journal's is, nothing
+/// is said.
 pub(crate) fn count_journal<D: Disk>(
     alloc: Global,
     journal: &mut Journal<D>,

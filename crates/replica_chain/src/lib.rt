@@ -1,8 +1,10 @@
-//! A node of a chain: a copy of a depot, with files of its own, that follows the depot's journal and copies its contents.
+//! A node of a chain: a copy of a depot, with files of its own, that follows the depot's journal and copies its
+//! contents.
 //!
-//! A [`Node`] cuts nothing and keeps every row. It copies the contents before it commits the group that names them, so that its files always open as
-//! those of a depot. Its journal and its archive are ends from which the next node follows in turn ([`NodeLink`], and the archive itself as
-//! `Contents`). A node whose work as a follower has ended is a depot as any other.
+//! A [`Node`] cuts nothing and keeps every row. It copies the contents before it commits the group that names them, so
+//! that its files always open as those of a depot. Its journal and its archive are ends from which the next node
+//! follows in turn ([`NodeLink`], and the archive itself as `Contents`). A node whose work as a follower has ended is a
+//! depot as any other.
 #![tactic(auto)]
 
 mod apart;

@@ -3,7 +3,8 @@
 use disk_journal::{Journal, Scanned};
 use outside_api::{Disk, Failed, Fetched, Link};
 
-/// The journal of a node, which is a link to itself: it brings what is committed, and never a group in doubt. It tells the texts of whole groups alone.
+/// The journal of a node, which is a link to itself: it brings what is committed, and never a group in doubt. It tells
+/// the texts of whole groups alone.
 #[derive(Drop)]
 pub struct NodeLink<D: Disk> {
     pub(crate) journal: Journal<D>,

@@ -80,7 +80,8 @@ fn not_counted<D: Disk>(opened: Opened<D>, fault: OpenFault) -> NotNode<D>
 }
 
 impl<D: Disk> Node<D> {
-    /// The node of these files, which are opened as those of a depot. The groups and the committed bytes of all generations are counted.
+    /// The node of these files, which are opened as those of a depot. The groups and the committed bytes of all
+    /// generations are counted.
     pub fn open(alloc: Global, journal: D, archive: D) -> Result<Node<D>, NotNode<D>>
         ensures can { IfOk result (CanFollow D.says) }
         // Of files that were written from the first change on it has all changes, and nothing is in doubt.

@@ -80,8 +80,8 @@ impl<D: Disk> Node<D> {
         Ok(())
     }
 
-    /// Takes a group, whose records end at a place of the generation's text: copies the contents that it names, checks those of its revisions, and commits
-    /// its changes.
+    /// Takes a group, whose records end at a place of the generation's text: copies the contents that it names, checks
+    /// those of its revisions, and commits its changes.
     fn take_group<C: Contents>(
         &mut self,
         alloc: Global,
@@ -127,7 +127,8 @@ impl<D: Disk> Node<D> {
         }
     }
 
-    /// Takes whole groups one after another, until what is left may still become one, and its records that are there fit. It answers how many it took.
+    /// Takes whole groups one after another, until what is left may still become one, and its records that are there
+    /// fit. It answers how many it took.
     fn take_groups<C: Contents>(
         &mut self,
         alloc: Global,
@@ -149,7 +150,8 @@ impl<D: Disk> Node<D> {
         ensures cut_short { IfErr result (IsCutShort D.says (C.tells contents.new) self.old self.new reader.old) }
         ensures node { (c : Chronicle) → IsNode D.says self.old c → HasNoFewer D.says self.new c }
         ensures keeps { KeepsContents D.says self.old.archive self.new.archive }
-        // Where what the reader has stands upstream behind the node, the node stays behind that, and what is left stands there behind it.
+        // Where what the reader has stands upstream behind the node, the node stays behind that, and what is left
+        // stands there behind it.
         ensures behind { (c : Chronicle) (up : Upstream) → C.tells contents.old up.bytes → IsBehind D.says self.old c up →
             Has (text_of up.texts (length c.closed)) (record { at = reader.old.at; length = length reader.old.left }) reader.old.left →
             GoesOnBehind D.says self.old self.new c up (λ texts. texts ≡ up.texts) (C.tells contents.new) }
@@ -273,9 +275,10 @@ impl<D: Disk> Node<D> {
         moved
     }
 
-    /// Fetches the next piece of the journal that the node follows, of at most 65,536 bytes, and takes it: of each group that is whole now the contents
-    /// are copied that it names, those of its revisions are checked, and its changes are committed; a rest is kept. Where the generation is closed the
-    /// next one begins, with a checkpoint of the rows. After an error the groups that were taken are committed, and the text behind them is given up.
+    /// Fetches the next piece of the journal that the node follows, of at most 65,536 bytes, and takes it: of each
+    /// group that is whole now the contents are copied that it names, those of its revisions are checked, and its
+    /// changes are committed; a rest is kept. Where the generation is closed the next one begins, with a checkpoint of
+    /// the rows. After an error the groups that were taken are committed, and the text behind them is given up.
     pub fn pull<L: Link, C: Contents>(
         &mut self,
         alloc: Global,

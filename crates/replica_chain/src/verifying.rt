@@ -47,7 +47,8 @@ fn verify_row<D: Disk>(
     }
 }
 
-/// Checks the content of each live revision, and answers how many there are. More than a number of 64 bits can say are never in memory.
+/// Checks the content of each live revision, and answers how many there are. More than a number of 64 bits can say are
+/// never in memory.
 fn verify_rows<D: Disk>(
     alloc: Global,
     archive: &mut Archive<D>,
@@ -74,7 +75,8 @@ fn verify_rows<D: Disk>(
 }
 
 impl<D: Disk> Node<D> {
-    /// Reads each content once, and answers how many there are. The place of the first, by path and revision, that hasn't the digest of its revision is told.
+    /// Reads each content once, and answers how many there are. The place of the first, by path and revision, that
+    /// hasn't the digest of its revision is told.
     pub fn verify(&mut self, alloc: Global) -> Result<u64, NodeFault>
         ensures verified { (files : Files) → D.says.seen (disk_of self.old.archive) files → spots_end (rows_of self.old.tables Rev) ≤ length (files 0) →
             IfOk result (λ count. AreWhole (files 0) (rows_of self.old.tables Rev)) }

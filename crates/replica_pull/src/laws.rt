@@ -18,8 +18,8 @@ ghost use Rattle.replica_pull.specs.Prefix.{HasFirst, HasFollowed, HasPrefix, Is
 ghost use Rattle.replica_pull.specs.Replica.{HasPassed, HasTakenPiece, IsBadPiece, IsNew, IsOfText, beginning};
 ghost use Rattle.replica_pull.specs.declared.replica.Replica.{Replica};
 
-/// Changes that are cut make of cut rows what the changes make of the rows, cut, and fit where those do. Rows of a depot, cut, are the rows of the
-/// cut depot.
+/// Changes that are cut make of cut rows what the changes make of the rows, cut, and fit where those do. Rows of a
+/// depot, cut, are the rows of the cut depot.
 pub fn cut_changes_make_cut_rows()
     ensures rows { (rules : List FilterRule) (whole rows : AllRows) (changes : List Change) →
         AreCut rules whole rows → AreCut rules (changed_by whole changes) (changed_by rows (cut_changes rules changes)) }
@@ -29,7 +29,8 @@ pub fn cut_changes_make_cut_rows()
         ((table : TableId) → HasRows whole d table) → (table : TableId) → HasRows rows (cut rules d) table }
 {}
 
-/// A replica has its master's rows cut to its filter: at first, after the groups that it takes, and after each generation that it passes.
+/// A replica has its master's rows cut to its filter: at first, after the groups that it takes, and after each
+/// generation that it passes.
 pub fn replicas_keep_cut_rows()
     ensures begun { (rules : List FilterRule) (r : Replica) → IsNew rules r → AreCut rules no_rows (rows_of r.tables) }
     ensures taken { (old new : Replica) (piece : List ℕ) (count : ℕ) (whole : AllRows) (has : HasTakenPiece old piece count new) →
@@ -38,8 +39,9 @@ pub fn replicas_keep_cut_rows()
         AreCut new.filter (changed_in whole (beginning (old.generation + 1))) (rows_of new.tables) }
 {}
 
-/// What a replica has taken of a generation is always the front of its text, in whole groups and a rest: at first and after a generation is
-/// passed nothing, then what it was with each piece that stands in the text behind it; and more text changes nothing of that.
+/// What a replica has taken of a generation is always the front of its text, in whole groups and a rest: at first and
+/// after a generation is passed nothing, then what it was with each piece that stands in the text behind it; and more
+/// text changes nothing of that.
 pub fn replicas_take_whole_groups()
     ensures begun { (rules : List FilterRule) (r : Replica) (text : List ℕ) → IsNew rules r → IsOfText r text }
     ensures passed { (old new : Replica) (text : List ℕ) → HasPassed old new → IsOfText new text }
@@ -50,9 +52,10 @@ pub fn replicas_take_whole_groups()
     ensures earlier { (earlier now : List (List ℕ)) (generation : ℕ) → IsEarlier earlier now → (more : List ℕ) × (text_of now generation ≡ text_of earlier generation ++ more) }
 {}
 
-/// After pulls one after another, each of which left the replica as it was or did what its link answered, of the journal as it was at an earlier
-/// moment, a replica has exactly the groups that lie whole in what it took of its master's journal, and one change more for each generation that it
-/// passed. Where the journal is one of whole groups these are its first changes, as many as the replica counts.
+/// After pulls one after another, each of which left the replica as it was or did what its link answered, of the
+/// journal as it was at an earlier moment, a replica has exactly the groups that lie whole in what it took of its
+/// master's journal, and one change more for each generation that it passed. Where the journal is one of whole groups
+/// these are its first changes, as many as the replica counts.
 pub fn replicas_have_a_prefix()
     ensures prefix { (rules : List FilterRule) (journal : List (List ℕ)) (r : Replica) (moments : List Moment) →
         HasFollowed rules journal r moments → HasPrefix rules journal r }
@@ -60,14 +63,15 @@ pub fn replicas_have_a_prefix()
         HasPrefix rules journal r → IsJournalOf journal generations → HasFirst rules generations r }
 {}
 
-/// A master's journal is never a bad feed: a replica that has followed it can take each piece of it that stands where it awaits its next one, whatever was
-/// committed since.
+/// A master's journal is never a bad feed: a replica that has followed it can take each piece of it that stands where
+/// it awaits its next one, whatever was committed since.
 pub fn journals_are_good_feeds()
     ensures { (rules : List FilterRule) (journal earlier : List (List ℕ)) (generations : List (List (List Change))) (r : Replica) (buffer : List ℕ) (n place : ℕ) →
         HasPrefix rules journal r → IsGoodJournal journal generations → IsEarlier earlier journal → Answers earlier r.generation r.at (Bytes n) buffer → IsBadPiece r (take n buffer) place → ⊥ }
 {}
 
-/// Where the rows that these changes make stand for a depot, a replica's tables stand for the depot that is cut to its filter.
+/// Where the rows that these changes make stand for a depot, a replica's tables stand for the depot that is cut to its
+/// filter.
 pub fn replicas_stand_for_cut_depots()
     ensures { (rules : List FilterRule) (generations : List (List (List Change))) (r : Replica) (d : List Deed) →
         HasFirst rules generations r → Stand (first_rows r.changes generations) d → Stand (rows_of r.tables) (cut rules d) }

@@ -154,7 +154,8 @@ impl Replica {
         (self.generation, self.changes)
     }
 
-    /// Where the next piece stands in the master's journal: its generation, and its place in the generation's text, in bytes from 0.
+    /// Where the next piece stands in the master's journal: its generation, and its place in the generation's text, in
+    /// bytes from 0.
     pub fn awaits(&self) -> (u32, u64)
         ensures { result ≡ (self.now.generation, self.now.at) }
     {
@@ -226,8 +227,9 @@ impl Replica {
         Ok(())
     }
 
-    /// Does what was fetched where it awaits its next piece, at the front of a buffer: the changes of the groups that are whole now are made, cut to the
-    /// filter, and a rest is kept; or the next generation begins. After an error the replica is as it was.
+    /// Does what was fetched where it awaits its next piece, at the front of a buffer: the changes of the groups that
+    /// are whole now are made, cut to the filter, and a rest is kept; or the next generation begins. After an error the
+    /// replica is as it was.
     pub fn follow(
         &mut self,
         alloc: Global,

@@ -34,8 +34,8 @@ ghost use Rattle.replica_turns.specs.declared.party.ReplicaParty.{ReplicaParty};
 
 use outside_api::{Clock, Disk};
 
-/// A depot that replicas follow stays one when it takes a command: where rows differ after it, its journal has one change more, and else the changes that
-/// it had; where it takes none, they stay. So its journal's texts grow.
+/// A depot that replicas follow stays one when it takes a command: where rows differ after it, its journal has one
+/// change more, and else the changes that it had; where it takes none, they stay. So its journal's texts grow.
 pub fn depots_grow_by_their_changes<D: Disk>()
     ensures placed { (past : Past) (start : List Deed) (places : List Placed) (old new : AnyDepot D) (c : Chronicle) (since : ℕ) (request : Request) (outcome : Outcome) (fault : Bool) →
         IsMaster D.says past start places old c → HasRun D.says old since start places →
@@ -48,16 +48,18 @@ pub fn depots_grow_by_their_changes<D: Disk>()
     ensures texts { (opens fault : Bool) (changes : List Change) (c : Chronicle) → HasGrownTo c (grown opens fault changes c) }
 {}
 
-/// What such a depot leaves was written from the first change on: both disks tell what they read, and each pair of images has the changes that were done before
-/// and then those among the places, or one more, which a fault place among them would have done.
+/// What such a depot leaves was written from the first change on: both disks tell what they read, and each pair of
+/// images has the changes that were done before and then those among the places, or one more, which a fault place among
+/// them would have done.
 pub fn depots_leave_what_was_written<D: Disk>()
     ensures { (past : Past) (start : List Deed) (places : List Placed) (depot : AnyDepot D) (c : Chronicle) (since : ℕ) → HasRun D.says depot since start places → IsMaster D.says past start places depot c →
         Leave D.says (disk_of depot.journal) (archive_disk_of depot.archive) (PairGoesOn past start places) }
 {}
 
-/// A replica that follows it goes on telling what it told: each reply other than to `pull` is that of a replica of the depot after the first n changes, cut to
-/// its filter, where n is what its last `pull` told, and 0 before one. Its commands are answered after numbers of places that don't fall, the last of them after
-/// all places, and each `pull` that tells a position took of the journal as it is after so many.
+/// A replica that follows it goes on telling what it told: each reply other than to `pull` is that of a replica of the
+/// depot after the first n changes, cut to its filter, where n is what its last `pull` told, and 0 before one. Its
+/// commands are answered after numbers of places that don't fall, the last of them after all places, and each `pull`
+/// that tells a position took of the journal as it is after so many.
 pub fn replicas_reply_for_their_last_pull<D: Disk, C: Clock>(clock: &C)
     ensures first { (past : Past) (start : List Deed) (places : List Placed) (party : ℕ) (script : ReplicaScript) (p : ReplicaParty) (c : Chronicle) →
         IsFresh (C.says.may_give clock.now) party script p → AreWellFormed script.session.commands → IsAlong past start places (C.says.may_give clock.now) party script p c [] [] }
@@ -71,8 +73,9 @@ pub fn replicas_reply_for_their_last_pull<D: Disk, C: Clock>(clock: &C)
     let _clock = clock;
 }
 
-/// A pull moves: over a depot whose journal has these groups, whose changes fit, below 2^63 bytes, each `pull` of a replica that has followed it, unless it tells
-/// that a disk failed or that there was no memory, takes at least one byte of what is committed then, passes to the next generation, or finds all of it taken.
+/// A pull moves: over a depot whose journal has these groups, whose changes fit, below 2^63 bytes, each `pull` of a
+/// replica that has followed it, unless it tells that a disk failed or that there was no memory, takes at least one
+/// byte of what is committed then, passes to the next generation, or finds all of it taken.
 pub fn pulls_move<D: Disk>()
     ensures { (depot : AnyDepot D) (c : Chronicle) (rules : List FilterRule) (moments : List Moment) (old new : ReplicaParty) (result : Result Answered (Unit {0})) →
         HasGroups D.says depot.journal c → IsGoodJournal (texts_in c) (generations_of c) → HasFollowed rules (texts_in c) old.replica moments →

@@ -51,8 +51,8 @@ pub struct Answered {
 }
 
 impl ReplicaParty {
-    /// A replica that has followed and answered nothing yet. Each of its commands has the moment that the clock gives now. The one error is want of
-    /// memory.
+    /// A replica that has followed and answered nothing yet. Each of its commands has the moment that the clock gives
+    /// now. The one error is want of memory.
     pub fn new<C: Clock>(
         alloc: Global,
         party: u32,
@@ -141,9 +141,9 @@ impl ReplicaParty {
         answer_by_journal(alloc, &mut self.replica, journal, request)
     }
 
-    /// Answers the next command. `pull` fetches of the depot's journal where the replica awaits its next piece, and `print` reads the archive. The one error
-    /// is want of memory; the command counts as answered then too, and the replica is as it was. With no command left nothing is done, and the answer is
-    /// the same.
+    /// Answers the next command. `pull` fetches of the depot's journal where the replica awaits its next piece, and
+    /// `print` reads the archive. The one error is want of memory; the command counts as answered then too, and the
+    /// replica is as it was. With no command left nothing is done, and the answer is the same.
     pub fn answer_next<D: Disk>(
         &mut self,
         alloc: Global,

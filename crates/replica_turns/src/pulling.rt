@@ -33,7 +33,8 @@ fn piece(alloc: Global) -> Result<Vec<u8>, AllocError>
     Ok(buffer)
 }
 
-/// Whether a replica found no memory for what was fetched. Where it can't take it for another cause, it stays as it was.
+/// Whether a replica found no memory for what was fetched. Where it can't take it for another cause, it stays as it
+/// was.
 fn follow(
     alloc: Global,
     replica: &mut Replica,
@@ -85,8 +86,9 @@ fn pull_into<D: Disk>(
     }
 }
 
-/// Answers the `pull` of that number: what the journal has where the replica awaits its next piece is fetched and followed, and the reply tells how
-/// far the replica is then. Where the journal's disk failed, or no memory was left, the replica is as it was.
+/// Answers the `pull` of that number: what the journal has where the replica awaits its next piece is fetched and
+/// followed, and the reply tells how far the replica is then. Where the journal's disk failed, or no memory was left,
+/// the replica is as it was.
 pub(crate) fn pull<D: Disk>(
     alloc: Global,
     replica: &mut Replica,

@@ -43,8 +43,8 @@ pub fn is_pull(request: &Request) -> bool
     matches!(&request.command, Ok(Command::Pull))
 }
 
-/// Answers a `print`, with contents of the archive that have the digests of their revisions. Where the archive hasn't one of them, the reply tells where it
-/// would begin.
+/// Answers a `print`, with contents of the archive that have the digests of their revisions. Where the archive hasn't
+/// one of them, the reply tells where it would begin.
 pub(crate) fn reply_print<D: Disk>(
     alloc: Global,
     replica: &Replica,

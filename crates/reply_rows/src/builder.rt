@@ -9,7 +9,8 @@ use depot_rows::paths::{DepotPath, Sequence};
 use std::alloc::{AllocError, Global};
 use std::marker::Model;
 
-/// A row without a content, to which fields are added. The one error of each method is want of memory, and then the row is gone.
+/// A row without a content, to which fields are added. The one error of each method is want of memory, and then the row
+/// is gone.
 #[derive(Drop)]
 pub struct RowBuilder {
     alloc: Global,

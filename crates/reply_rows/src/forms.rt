@@ -1,4 +1,5 @@
-//! The fields of forms, as rows show them: a single field's value where it has one, and the lines of another field numbered from 0.
+//! The fields of forms, as rows show them: a single field's value where it has one, and the lines of another field
+//! numbered from 0.
 
 ghost use Rattle.std.specs.Prelude.{◌≡◌, ◌++◌, ◌+◌, map, decimal, IfOk, OnOk};
 ghost use Rattle.std.specs.List.{enumerate_from};

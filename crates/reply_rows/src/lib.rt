@@ -1,7 +1,7 @@
 //! What commands answer, and what they do: the rows of replies, and the step of a command.
 //!
-//! A command makes a [`Step`]: the deeds that it would do, the rows of its reply, the contents that it stores, and where the contents come from
-//! that its rows lack. Each refusal has the function of its row.
+//! A command makes a [`Step`]: the deeds that it would do, the rows of its reply, the contents that it stores, and
+//! where the contents come from that its rows lack. Each refusal has the function of its row.
 #![tactic(auto)]
 
 mod builder;

@@ -180,9 +180,9 @@ fn chosen_by(
     }
 }
 
-/// The revision of a file that a file specification chooses, of a range its second end (Command-Line Reference, "File specifications"), from
-/// the tables alone that the end asks for. It reads no more revisions than the file has, and but for a date no more than their number has
-/// binary digits, about twice.
+/// The revision of a file that a file specification chooses, of a range its second end (Command-Line Reference, "File
+/// specifications"), from the tables alone that the end asks for. It reads no more revisions than the file has, and but
+/// for a date no more than their number has binary digits, about twice.
 pub fn chosen_of(
     alloc: Global,
     tables: &Tables,

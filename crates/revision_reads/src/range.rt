@@ -261,9 +261,10 @@ fn asked_of(
     Ok(numbers)
 }
 
-/// The numbers of the revisions of a file for which a file specification asks, the first first (Command-Line Reference, "File specifications", on
-/// revision ranges): up to the chosen one, and from the first end of a range on; of `@=` those of that change alone. It reads the tables of
-/// revisions and changes and those that the choice asks for, and looks up no more rows than two for each revision of the file.
+/// The numbers of the revisions of a file for which a file specification asks, the first first (Command-Line Reference,
+/// "File specifications", on revision ranges): up to the chosen one, and from the first end of a range on; of `@=`
+/// those of that change alone. It reads the tables of revisions and changes and those that the choice asks for, and
+/// looks up no more rows than two for each revision of the file.
 pub fn in_range(
     alloc: Global,
     tables: &Tables,

@@ -1,4 +1,5 @@
-//! Files of client paths, and the targets of sources, where the texts of one argument's specifiers are put into another.
+//! Files of client paths, and the targets of sources, where the texts of one argument's specifiers are put into
+//! another.
 
 ghost use Rattle.std.specs.Prelude.{◌≡◌, [], List, IfOk, Some, find, if◌then◌else◌, unwrap_or};
 ghost use Rattle.std.specs.Option.{option_copied};
@@ -53,8 +54,9 @@ fn own_path(found: Option<&DepotPath>, other: &DepotPath) -> Result<DepotPath, A
     }
 }
 
-/// The first of some files that is there and isn't deleted, or else the first, None exactly where there are none (Command-Line Reference, "p4 add"),
-/// from the table of revisions alone. The one error, here and below, is want of memory.
+/// The first of some files that is there and isn't deleted, or else the first, None exactly where there are none
+/// (Command-Line Reference, "p4 add"), from the table of revisions alone. The one error, here and below, is want of
+/// memory.
 pub fn first_live(
     alloc: Global,
     tables: &Tables,
@@ -72,8 +74,8 @@ pub fn first_live(
     }
 }
 
-/// The file that a client path stands for: of those that the view puts there the first that is there and isn't deleted, or else the first
-/// (Command-Line Reference, "p4 add", "Views"), from the table of revisions alone.
+/// The file that a client path stands for: of those that the view puts there the first that is there and isn't deleted,
+/// or else the first (Command-Line Reference, "p4 add", "Views"), from the table of revisions alone.
 pub fn file_at(
     alloc: Global,
     tables: &Tables,
@@ -87,8 +89,8 @@ pub fn file_at(
     Ok(file)
 }
 
-/// The client path at which a client's view shows a file at a choice of revisions, None exactly where there is none (Command-Line Reference,
-/// "Views"), from the table of revisions and those for which the choice asks.
+/// The client path at which a client's view shows a file at a choice of revisions, None exactly where there is none
+/// (Command-Line Reference, "Views"), from the table of revisions and those for which the choice asks.
 pub fn shown_in_view(
     alloc: Global,
     tables: &Tables,
@@ -104,7 +106,8 @@ pub fn shown_in_view(
     Ok(place)
 }
 
-/// The text whose specifiers' texts are put into the target: the file, or its place where the source is in client syntax.
+/// The text whose specifiers' texts are put into the target: the file, or its place where the source is in client
+/// syntax.
 fn source_text(
     alloc: Global,
     tables: &Tables,
@@ -144,8 +147,8 @@ fn texts_of(
     }
 }
 
-/// The text of a source's target, which may be no path (Command-Line Reference, "p4 integrate", "p4 move"), from the table of revisions and those
-/// for which the source asks.
+/// The text of a source's target, which may be no path (Command-Line Reference, "p4 integrate", "p4 move"), from the
+/// table of revisions and those for which the source asks.
 pub fn target_text(
     alloc: Global,
     tables: &Tables,
@@ -185,8 +188,8 @@ fn file_of(
     }
 }
 
-/// The file of a target's text, None exactly where it is no path or no file has that client path (Command-Line Reference, "p4 integrate", "p4 move"),
-/// from the table of revisions alone.
+/// The file of a target's text, None exactly where it is no path or no file has that client path (Command-Line
+/// Reference, "p4 integrate", "p4 move"), from the table of revisions alone.
 pub fn target_at(
     alloc: Global,
     tables: &Tables,

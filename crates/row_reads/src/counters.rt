@@ -53,7 +53,8 @@ fn rows_have_counters(tables: &Tables)
     let _table = version.table();
 }
 
-/// The counters that have values, in the order of their names (Command-Line Reference, "p4 counters"), from the table of counters alone.
+/// The counters that have values, in the order of their names (Command-Line Reference, "p4 counters"), from the table
+/// of counters alone.
 pub fn counters_of(alloc: Global, tables: &Tables) -> Result<Sequence<CounterRecord>, AllocError>
     ensures { IfOk result (λ counters. (d : List Deed) → HasRows (rows_of tables.now) d table_ids.Counter → counters ≡ counters_of_depot d) }
 {

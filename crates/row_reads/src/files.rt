@@ -78,7 +78,8 @@ fn opened_key(alloc: Global, client: &Name, path: &DepotPath) -> Result<Key, All
     Ok(Key::Working { path, client })
 }
 
-/// The revision of a file that a client has, 0 where it has none (Command-Line Reference, "p4 have"), from the table of have lists alone.
+/// The revision of a file that a client has, 0 where it has none (Command-Line Reference, "p4 have"), from the table of
+/// have lists alone.
 pub fn have_of(
     alloc: Global,
     tables: &Tables,
@@ -94,7 +95,8 @@ pub fn have_of(
     Ok(rev)
 }
 
-/// The revision of a file that a label has, 0 where it has none (Command-Line Reference, "p4 label"), from the table of labels alone.
+/// The revision of a file that a label has, 0 where it has none (Command-Line Reference, "p4 label"), from the table of
+/// labels alone.
 pub fn label_of(
     alloc: Global,
     tables: &Tables,
@@ -110,8 +112,8 @@ pub fn label_of(
     Ok(rev)
 }
 
-/// The row of a file that a client has opened, None exactly where it hasn't (Command-Line Reference, "p4 opened"), from the table of opened
-/// files alone.
+/// The row of a file that a client has opened, None exactly where it hasn't (Command-Line Reference, "p4 opened"), from
+/// the table of opened files alone.
 pub fn opened_of(
     alloc: Global,
     tables: &Tables,

@@ -82,8 +82,8 @@ fn form_in_row(
     }
 }
 
-/// A saved form, None exactly where none is saved under the name (Command-Line Reference, "p4 client", "p4 label"), from the table of
-/// forms alone.
+/// A saved form, None exactly where none is saved under the name (Command-Line Reference, "p4 client", "p4 label"),
+/// from the table of forms alone.
 pub fn saved_form(
     alloc: Global,
     tables: &Tables,

@@ -1,7 +1,7 @@
 //! What commands read of a depot in its tables, each from the rows of the tables that it names and of no others.
 //!
-//! Each call answers for all tables. Where those that it reads have the rows of a sound depot, it answers what the model says of that
-//! depot. The one error is want of memory.
+//! Each call answers for all tables. Where those that it reads have the rows of a sound depot, it answers what the
+//! model says of that depot. The one error is want of memory.
 #![tactic(auto)]
 
 mod callers;

@@ -26,8 +26,8 @@ fn rows_spell_lines(tables: &Tables)
     let _table = version.table();
 }
 
-/// The protections (Command-Line Reference, "p4 protect"), from the table of protections alone. They were read when its version was made: the
-/// call takes no memory.
+/// The protections (Command-Line Reference, "p4 protect"), from the table of protections alone. They were read when its
+/// version was made: the call takes no memory.
 pub fn protects_of(tables: &Tables) -> &Protects
     ensures rows { result.now ≡ protects_told (rows_of tables.now table_ids.Protect) }
     ensures depot { (d : List Deed) → IsSound d → HasRows (rows_of tables.now) d table_ids.Protect → result.now ≡ protects_in d }
@@ -45,8 +45,8 @@ fn rows_keep_lines(tables: &Tables)
     let _table = version.table();
 }
 
-/// The lines of the protections, each with one space between its words (Command-Line Reference, "p4 protect"), from the table of
-/// protections alone.
+/// The lines of the protections, each with one space between its words (Command-Line Reference, "p4 protect"), from the
+/// table of protections alone.
 pub fn protection_lines(alloc: Global, tables: &Tables) -> Result<Sequence<Text>, AllocError>
     ensures { IfOk result (λ lines. (d : List Deed) → IsSound d → HasRows (rows_of tables.now) d table_ids.Protect → lines ≡ map kept_line (guard_lines d)) }
 {

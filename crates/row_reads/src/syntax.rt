@@ -42,7 +42,8 @@ fn begins_with_name(name: &[u8], pieces: &[Piece]) -> bool
     is_end(pieces)
 }
 
-/// Whether a pattern is in the syntax of a client: its first component is the client's name (Command-Line Reference, "File specifications").
+/// Whether a pattern is in the syntax of a client: its first component is the client's name (Command-Line Reference,
+/// "File specifications").
 pub fn in_client_syntax(client: &Name, pattern: &Pattern) -> bool
     ensures { result ≡ in_syntax_of client.now pattern.now }
 {

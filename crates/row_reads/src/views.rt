@@ -74,7 +74,8 @@ fn view_in_row(
     }
 }
 
-/// The view of a client, None exactly where it isn't saved (Command-Line Reference, "p4 client"), from the table of forms alone.
+/// The view of a client, None exactly where it isn't saved (Command-Line Reference, "p4 client"), from the table of
+/// forms alone.
 pub fn view_of(alloc: Global, tables: &Tables, client: &Name) -> Result<Option<View>, AllocError>
     ensures { IfOk result (λ found. (d : List Deed) → IsSound d → HasRows (rows_of tables.now) d table_ids.Domain →
         found ≡ (if is_client d client.now then Some (view d client.now) else None)) }

@@ -1,4 +1,5 @@
-//! What the parties of a run ask and what they are given, whether they take turns on one thread or each has a thread of its own.
+//! What the parties of a run ask and what they are given, whether they take turns on one thread or each has a thread of
+//! its own.
 #![tactic(auto)]
 
 mod asking;

@@ -55,7 +55,8 @@ fn wants_memory(command: &Result<Command, WordFault>) -> bool
     matches!(command, Err(WordFault::Memory))
 }
 
-/// What a command takes of the contents behind so many lines that say something of files, where memory was left to read it.
+/// What a command takes of the contents behind so many lines that say something of files, where memory was left to read
+/// it.
 fn contents_for(
     command: &Result<Command, WordFault>,
     script: &Arc<ScriptContents, Global>,

@@ -62,8 +62,8 @@ fn request_now<C: Clock>(
     Ok(request)
 }
 
-/// The requests of the commands of a session, or of a replica's script, in order and numbered from 1, each with the moment that the clock gives then.
-/// The one error is want of memory.
+/// The requests of the commands of a session, or of a replica's script, in order and numbered from 1, each with the
+/// moment that the clock gives then. The one error is want of memory.
 pub fn requests_of<C: Clock>(
     alloc: Global,
     party: u32,
@@ -84,8 +84,8 @@ pub fn requests_of<C: Clock>(
     Ok(requests)
 }
 
-/// The requests of the commands of a session, in order and numbered from 1, each with the moment that the clock gives then. A script without a head
-/// makes none. The one error is want of memory.
+/// The requests of the commands of a session, in order and numbered from 1, each with the moment that the clock gives
+/// then. A script without a head makes none. The one error is want of memory.
 pub fn session_requests<C: Clock>(
     alloc: Global,
     party: u32,

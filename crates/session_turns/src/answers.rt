@@ -74,8 +74,8 @@ fn has_left(runs: &[SessionRun], totals: &[u32], at: usize) -> bool
     }
 }
 
-/// Answers all that a party has left as want of memory, as long as its sink takes it. Where the tables are those of a depot, nothing is left. The clock is
-/// the one that gave the moments of the order.
+/// Answers all that a party has left as want of memory, as long as its sink takes it. Where the tables are those of a
+/// depot, nothing is left. The clock is the one that gave the moments of the order.
 fn answer_left<K: Sink, C: Clock>(
     at: usize,
     clock: &C,

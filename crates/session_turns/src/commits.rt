@@ -39,8 +39,8 @@ fn tables_with_room(
     core.tables_after(alloc, party)
 }
 
-/// Makes the commit that a party has at hand, for whose outcome there may have been no memory: gives its request a place in the depot, and puts the place
-/// behind the order. The one error is want of memory, and then it has no place.
+/// Makes the commit that a party has at hand, for whose outcome there may have been no memory: gives its request a
+/// place in the depot, and puts the place behind the order. The one error is want of memory, and then it has no place.
 pub(crate) fn place_commit<D: Disk, G: Gate>(
     alloc: Global,
     party: u32,

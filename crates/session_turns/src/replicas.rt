@@ -89,7 +89,8 @@ impl Replicas {
         }
     }
 
-    /// The reply to the next command of a replica. Without memory for it there is none; the command counts as answered then too.
+    /// The reply to the next command of a replica. Without memory for it there is none; the command counts as answered
+    /// then too.
     pub(crate) fn reply<D: Disk>(
         &mut self,
         alloc: Global,

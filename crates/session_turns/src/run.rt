@@ -47,12 +47,13 @@ pub struct Unrun<D: Disk, K> {
     pub depot: SerialDepot<D>,
 }
 
-/// Takes the commands of sessions and of replicas by turns that the numbers after a seed draw, and gives each reply to the sink of its party. Parties are
-/// numbered from 1, in the order of both lists, of which each party has a place in either; one whose script has no head is in neither and asks nothing.
-/// All requests are made before the first turn. A command of a session whose commit failed has a fault place; one that finds no memory is answered so and
-/// has no place. A replica has the rows of the files inside its filter, as far as it has followed the journal of this depot: each of its turns answers
-/// one command, which has no place. A party whose sink failed takes no further command. The one error is want of memory before the first turn, and then
-/// nothing is done.
+/// Takes the commands of sessions and of replicas by turns that the numbers after a seed draw, and gives each reply to
+/// the sink of its party. Parties are numbered from 1, in the order of both lists, of which each party has a place in
+/// either; one whose script has no head is in neither and asks nothing. All requests are made before the first turn. A
+/// command of a session whose commit failed has a fault place; one that finds no memory is answered so and has no
+/// place. A replica has the rows of the files inside its filter, as far as it has followed the journal of this depot:
+/// each of its turns answers one command, which has no place. A party whose sink failed takes no further command. The
+/// one error is want of memory before the first turn, and then nothing is done.
 pub fn run_sessions<D: Disk, K: Sink + Drop, C: Clock, G: Gate>(
     alloc: Global,
     seed: u32,
@@ -76,8 +77,9 @@ pub fn run_sessions<D: Disk, K: Sink + Drop, C: Clock, G: Gate>(
     // From each depot from which the depot in files begins, where the commands are well-formed.
     ensures served { (since : ℕ) (start : List Deed) → All (λ session. AreWellFormed (commands_of session)) sessions.items → HasRun D.says depot since start [] →
         IfOk result (λ ran. AreServed (C.says.may_give clock.now) sessions.items replicas.items start ran.runs.items (map K.says.given sinks.items) (map K.says.given ran.sinks.items) ran.order.items) }
-    // The order is that of the machine with the turns that the seed draws, and each command of a replica is answered over as many places as it had at its turn. Fault
-    // places and replies of a failed disk are together at most as many as the counts of the two disks rose.
+    // The order is that of the machine with the turns that the seed draws, and each command of a replica is answered
+    // over as many places as it had at its turn. Fault places and replies of a failed disk are together at most as many
+    // as the counts of the two disks rose.
     ensures counted { (since : ℕ) (start : List Deed) → All (λ session. AreWellFormed (commands_of session)) sessions.items → HasRun D.says depot since start [] →
         IfOk result (λ ran. AreCounted D.says (C.says.may_give clock.now) seed depot sessions.items replicas.items since start ran.order.items ran.runs.items ran.lost (λ failures. HaveRisenBy failures (D.says.faults (disk_of depot.journal)) (D.says.faults (disk_of ran.depot.journal)) (D.says.faults (archive_disk_of depot.archive)) (D.says.faults (archive_disk_of ran.depot.archive))) (map K.says.given sinks.items) (map K.says.given ran.sinks.items)) }
     // From a depot that they follow on, the depot at the end is one that they follow after the places.
@@ -89,7 +91,8 @@ pub fn run_sessions<D: Disk, K: Sink + Drop, C: Clock, G: Gate>(
     ensures ends { IfOk result (λ ran. AreEnds K.says sessions.items replicas.items ran.runs.items sinks.items ran.sinks.items) }
 
     // Where there is no fault place, and no replica was answered that a disk failed, the counts of the two disks stand.
-    // There are at most as many fault places as the counts of the two disks rose, and a replica was answered that a disk failed only where one of them rose.
+    // There are at most as many fault places as the counts of the two disks rose, and a replica was answered that a
+    // disk failed only where one of them rose.
     ensures stand { IfOk result (λ ran. ran.lost ≡ false → StandWithoutFaults (D.says.faults (disk_of depot.journal)) (D.says.faults (disk_of ran.depot.journal)) (D.says.faults (archive_disk_of depot.archive)) (D.says.faults (archive_disk_of ran.depot.archive)) [] ran.order.items) }
     ensures faults { IfOk result (λ ran. AreCaused (D.says.faults (disk_of depot.journal)) (D.says.faults (disk_of ran.depot.journal)) (D.says.faults (archive_disk_of depot.archive)) (D.says.faults (archive_disk_of ran.depot.archive)) [] ran.order.items) }
     ensures lost { IfOk result (λ ran. ran.lost ≡ true → OneHasRisen (D.says.faults (disk_of depot.journal)) (D.says.faults (disk_of ran.depot.journal)) (D.says.faults (archive_disk_of depot.archive)) (D.says.faults (archive_disk_of ran.depot.archive))) }

@@ -39,8 +39,8 @@ pub(crate) struct Turns<D: Disk, K: Sink> {
 }
 
 impl<D: Disk, K: Sink> Turns<D, K> {
-    /// Makes the commit of a party that is at hand, and answers its command at once. Where all its commands are answered already, as in no run of a depot,
-    /// it does nothing and says so.
+    /// Makes the commit of a party that is at hand, and answers its command at once. Where all its commands are
+    /// answered already, as in no run of a depot, it does nothing and says so.
     fn make_commit<C: Clock, G: Gate>(
         &mut self,
         alloc: Global,
@@ -105,8 +105,8 @@ impl<D: Disk, K: Sink> Turns<D, K> {
         }
     }
 
-    /// Makes the turn of a replica that has commands left: it answers the next one. Where all its commands are answered already, as in no run of a depot,
-    /// it does nothing and says so.
+    /// Makes the turn of a replica that has commands left: it answers the next one. Where all its commands are answered
+    /// already, as in no run of a depot, it does nothing and says so.
     fn take_replica_turn<C: Clock>(&mut self, alloc: Global, party: u32, clock: &C) -> bool
         requires can { CanGoOn D.says self.old }
         ensures can { CanGoOn D.says self.new }
@@ -127,7 +127,8 @@ impl<D: Disk, K: Sink> Turns<D, K> {
         true
     }
 
-    /// Makes the turn of a party: of a replica that has commands left, or of a session. Where it can't go on, it does nothing and says so.
+    /// Makes the turn of a party: of a replica that has commands left, or of a session. Where it can't go on, it does
+    /// nothing and says so.
     fn advance<C: Clock, G: Gate>(&mut self, alloc: Global, party: u32, clock: &C, gate: &G) -> bool
         requires can { CanGoOn D.says self.old }
         ensures can { CanGoOn D.says self.new }
@@ -146,7 +147,8 @@ impl<D: Disk, K: Sink> Turns<D, K> {
         }
     }
 
-    /// Makes the turns that the numbers after a seed draw, until no party may go on. A run has less than 2 to the 64 of them.
+    /// Makes the turns that the numbers after a seed draw, until no party may go on. A run has less than 2 to the 64 of
+    /// them.
     pub(crate) fn take_all<C: Clock, G: Gate>(
         &mut self,
         alloc: Global,

@@ -16,8 +16,9 @@ use outside_api::{Disk, DiskFault, Failed, Fetched, Link};
 use party_marks::{MarkPass, MarkWords, Marking, Marks};
 use std::sync::Wait;
 
-/// The journal of a depot that threads share, as a replica follows it. Each fetch takes the lock of the journal, and that of the order for a moment: it falls
-/// between two commits, and the party of the link learns all places so far. Where the journal's disk fails, the party makes a mark.
+/// The journal of a depot that threads share, as a replica follows it. Each fetch takes the lock of the journal, and
+/// that of the order for a moment: it falls between two commits, and the party of the link learns all places so far.
+/// Where the journal's disk fails, the party makes a mark.
 #[derive(Drop)]
 pub struct DepotLink<'a, D: Disk, N: Serving, R: Wait> {
     depot: &'a SharedDepot<D, N>,
@@ -26,7 +27,8 @@ pub struct DepotLink<'a, D: Disk, N: Serving, R: Wait> {
     pub(crate) marks: BothMarks<N>,
 }
 
-/// Makes a mark of a party where a fetch failed. Where there are as many marks as there can be, the party learns them all.
+/// Makes a mark of a party where a fetch failed. Where there are as many marks as there can be, the party learns them
+/// all.
 fn tell_fetched<N: Marking>(
     words: &MarkWords<N>,
     all: &mut Marks<N>,
@@ -62,8 +64,8 @@ impl<D: Disk, N: Serving> CommonDepot<D, N> {
 }
 
 impl<D: Disk, N: Serving> WrittenJournal<D, N> {
-    /// Fetches for a party, and makes a mark of it where the journal's disk fails. Then the lock of the order is taken too, and the party learns all places so
-    /// far.
+    /// Fetches for a party, and makes a mark of it where the journal's disk fails. Then the lock of the order is taken
+    /// too, and the party learns all places so far.
     fn fetch<R: Wait>(
         &mut self,
         rt: &R,
@@ -97,8 +99,8 @@ impl<D: Disk, N: Serving> WrittenJournal<D, N> {
 }
 
 impl<D: Disk, N: Serving> SharedDepot<D, N> {
-    /// A link to its journal for one of the parties, which gives the link what it knows, and learns all places so far. What the party has told so far of failed
-    /// disks stays told.
+    /// A link to its journal for one of the parties, which gives the link what it knows, and learns all places so far.
+    /// What the party has told so far of failed disks stays told.
     pub fn link<'a, R: Wait>(
         &'a self,
         rt: &'a R,

@@ -19,16 +19,17 @@ pub fn kept_files_are_those_last_shelved()
     ensures { KeptAsLastShelved }
 {}
 
-/// The replies of `files`, `filelog`, `print`, `describe` and `changes -s submitted` over any depot are those over the depot
-/// without the forms of shelved files.
+/// The replies of `files`, `filelog`, `print`, `describe` and `changes -s submitted` over any depot are those over the
+/// depot without the forms of shelved files.
 pub fn shelves_change_no_history()
     ensures { ShelvesAreApart }
 {}
 
-/// Whatever the order of places: an `unshelve` that follows them opens files with the base, action, type and source of the last
-/// `shelve` place that saved them, or, where no place did, of their shelf in the depot at the start, prints the block of that shelf,
-/// and does nothing else; each other row of its reply is a refusal. Unless one refusal is its whole reply, each kept file that it names
-/// is opened so, once, and has its row, or has the row of the first refusal of its opening.
+/// Whatever the order of places: an `unshelve` that follows them opens files with the base, action, type and source of
+/// the last `shelve` place that saved them, or, where no place did, of their shelf in the depot at the start, prints
+/// the block of that shelf, and does nothing else; each other row of its reply is a refusal. Unless one refusal is its
+/// whole reply, each kept file that it names is opened so, once, and has its row, or has the row of the first refusal
+/// of its opening.
 pub fn unshelving_opens_what_was_last_shelved()
     ensures { UnshelvesAsLastShelved }
 {}

@@ -197,8 +197,9 @@ fn change_row(
     Ok(told)
 }
 
-/// `describe -S N`: a change with the files that are kept in it, of those that the caller may list; a change without such is refused. It reads the
-/// tables of forms and changes alone, and of the forms of shelved files those of the change alone.
+/// `describe -S N`: a change with the files that are kept in it, of those that the caller may list; a change without
+/// such is refused. It reads the tables of forms and changes alone, and of the forms of shelved files those of the
+/// change alone.
 pub fn describe_shelved(
     alloc: Global,
     tables: &Tables,

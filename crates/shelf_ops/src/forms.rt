@@ -163,8 +163,8 @@ fn kept_text(
     Ok(text)
 }
 
-/// The form of a file that a caller keeps in the change in which a client has it opened, with the block that gave its content, where one did. The one
-/// error is want of memory.
+/// The form of a file that a caller keeps in the change in which a client has it opened, with the block that gave its
+/// content, where one did. The one error is want of memory.
 pub(crate) fn shelf_form(
     alloc: Global,
     caller: &Caller,

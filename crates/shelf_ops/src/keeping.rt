@@ -177,8 +177,9 @@ fn rows_tell_kept(tables: &Tables)
     let _table = version.table();
 }
 
-/// The files that are kept in a change (Command-Line Reference, "p4 shelve"), in the order of their paths, from the table of forms alone. It walks
-/// over the forms of the change's shelved files alone, also those that are gone. The one error is want of memory.
+/// The files that are kept in a change (Command-Line Reference, "p4 shelve"), in the order of their paths, from the
+/// table of forms alone. It walks over the forms of the change's shelved files alone, also those that are gone. The one
+/// error is want of memory.
 pub(crate) fn kept_files(
     alloc: Global,
     tables: &Tables,
@@ -225,7 +226,8 @@ fn listable_among(
     Ok(files)
 }
 
-/// The files that are kept in a change, of those that the asker may list, in the order of their paths, from the table of forms alone.
+/// The files that are kept in a change, of those that the asker may list, in the order of their paths, from the table
+/// of forms alone.
 pub(crate) fn listable_files(
     alloc: Global,
     tables: &Tables,

@@ -9,8 +9,8 @@ use named_files::{Asker, HeadFiles, Listing};
 use reply_rows::Step;
 use std::alloc::{AllocError, Global};
 
-/// The files that are kept in a change, of which the arguments of a caller name some: one in client syntax those that the client shows there at
-/// their heads, whichever revision it asks for.
+/// The files that are kept in a change, of which the arguments of a caller name some: one in client syntax those that
+/// the client shows there at their heads, whichever revision it asks for.
 #[derive(Drop)]
 pub(crate) struct KeptHeads<'a> {
     pub(crate) caller: &'a Caller,

@@ -20,7 +20,8 @@ use opening_reads::path_in;
 use row_reads::form_value;
 use std::alloc::{AllocError, Global};
 
-/// The number that digits spell, where it is at most 4,294,967,295; a number in the form of a shelved file of a sound depot is so small.
+/// The number that digits spell, where it is at most 4,294,967,295; a number in the form of a shelved file of a sound
+/// depot is so small.
 fn number_in(digits: &[u8]) -> u32
     ensures { number_of digits.now ≤ 4294967295 → result ≡ number_of digits.now }
 {
@@ -117,7 +118,8 @@ pub(crate) fn kept_block(alloc: Global, form: &Form) -> Result<Option<Text>, All
     Ok(block)
 }
 
-/// The opening in a change, 0 for the default one, of a file that is kept, by its form. The one error is want of memory.
+/// The opening in a change, 0 for the default one, of a file that is kept, by its form. The one error is want of
+/// memory.
 pub(crate) fn kept_opening(
     alloc: Global,
     caller: &Caller,

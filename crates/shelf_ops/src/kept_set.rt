@@ -9,7 +9,8 @@ use named_files::Asker;
 use reply_rows::Step;
 use std::alloc::{AllocError, Global};
 
-/// The files that are kept in a change, of which the arguments of a caller name some, wherever the client's view puts them.
+/// The files that are kept in a change, of which the arguments of a caller name some, wherever the client's view puts
+/// them.
 #[derive(Drop)]
 pub(crate) struct KeptFiles<'a> {
     pub(crate) caller: &'a Caller,

@@ -14,8 +14,8 @@ use named_files::{Asker, HeadFiles, Listing, candidates};
 use reply_rows::Step;
 use std::alloc::{AllocError, Global};
 
-/// The files that the client of a caller has opened in a change, of which the arguments of the caller name some: one in client syntax those that the
-/// client shows there at their heads, whichever revision it asks for.
+/// The files that the client of a caller has opened in a change, of which the arguments of the caller name some: one in
+/// client syntax those that the client shows there at their heads, whichever revision it asks for.
 #[derive(Drop)]
 pub(crate) struct OpenedHeads<'a> {
     pub(crate) caller: &'a Caller,

@@ -92,9 +92,9 @@ impl<'a> FileAct for Removing<'a> {
     ghost next = { λ removing d e argument path later. tt };
 }
 
-/// `shelve -d -c N [FILE...]`: files are kept in a change no more. It is refused where the change isn't a pending one of the caller's user and
-/// client, or keeps no file that the caller may list. It reads the tables of forms and changes alone, and of the forms of
-/// shelved files those of the change alone. The one error is want of memory.
+/// `shelve -d -c N [FILE...]`: files are kept in a change no more. It is refused where the change isn't a pending one
+/// of the caller's user and client, or keeps no file that the caller may list. It reads the tables of forms and changes
+/// alone, and of the forms of shelved files those of the change alone. The one error is want of memory.
 pub fn shelve_delete(
     alloc: Global,
     tables: &Tables,

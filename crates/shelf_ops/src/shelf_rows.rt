@@ -100,8 +100,8 @@ pub(crate) fn beginning_of(alloc: Global, change: u32) -> Result<Text, AllocErro
     Ok(start)
 }
 
-/// The rows of shelved files whose names begin with a text, in the order of their keys, at the cost of these rows alone. The one error is want of
-/// memory.
+/// The rows of shelved files whose names begin with a text, in the order of their keys, at the cost of these rows
+/// alone. The one error is want of memory.
 pub(crate) fn rows_in<'a>(
     alloc: Global,
     tables: &'a Tables,

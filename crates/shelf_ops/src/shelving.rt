@@ -180,11 +180,13 @@ impl<'a> FileAct for Shelving<'a> {
     ghost next = { λ act d e argument path later. tt };
 }
 
-/// `shelve -c N [-f] [FILE...]`: keeps files in the pending change in which the client has them opened, with the blocks that give their contents. It is
-/// refused where the change isn't a pending one of the caller's user and client. A file is refused first that the caller may not open, then that is
-/// opened for another action than add, edit and delete, then, without `-f`, that is kept already, then that lacks its content; and all of it where more
-/// than 10,000 files or more than 16,777,216 bytes of blocks would be kept. It reads the tables of forms, opened files, changes and revisions
-/// alone, and of the forms of shelved files those of the files that it keeps alone. The one error is want of memory.
+/// `shelve -c N [-f] [FILE...]`: keeps files in the pending change in which the client has them opened, with the blocks
+/// that give their contents. It is refused where the change isn't a pending one of the caller's user and client. A file
+/// is refused first that the caller may not open, then that is opened for another action than add, edit and delete,
+/// then, without `-f`, that is kept already, then that lacks its content; and all of it where more than 10,000 files or
+/// more than 16,777,216 bytes of blocks would be kept. It reads the tables of forms, opened files, changes and
+/// revisions alone, and of the forms of shelved files those of the files that it keeps alone. The one error is want of
+/// memory.
 pub fn shelve(
     alloc: Global,
     tables: &Tables,

@@ -185,10 +185,11 @@ impl<'a> FileAct for Unshelving<'a> {
     ghost next = { λ act d e argument path later. tt };
 }
 
-/// `unshelve -s SHELVED [-c CHANGE] [FILE...]`: opens files as they were kept in a change, and prints their contents where blocks gave them. It is
-/// refused where the change in which it opens them isn't a pending one of the caller's user and client, or where the caller may list no file that is
-/// kept. It reads the tables of forms, opened files, changes and revisions alone, and of the forms of shelved files those of the
-/// change alone. The one error is want of memory.
+/// `unshelve -s SHELVED [-c CHANGE] [FILE...]`: opens files as they were kept in a change, and prints their contents
+/// where blocks gave them. It is refused where the change in which it opens them isn't a pending one of the caller's
+/// user and client, or where the caller may list no file that is kept. It reads the tables of forms, opened files,
+/// changes and revisions alone, and of the forms of shelved files those of the change alone. The one error is want of
+/// memory.
 pub fn unshelve(
     alloc: Global,
     tables: &Tables,

@@ -33,8 +33,8 @@ pub fn forms_that_are_saved_keep_depots_sound()
     ensures job { (d : List Deed) (input : List ℕ) → IsSound d → IsSound (after d (job_save d input).deeds) }
 {}
 
-/// Saving and deleting pending changes leaves a sound depot sound, where the caller has names, and a change with shelved files or fixes isn't
-/// deleted. So does a checkpoint.
+/// Saving and deleting pending changes leaves a sound depot sound, where the caller has names, and a change with
+/// shelved files or fixes isn't deleted. So does a checkpoint.
 pub fn steps_on_changes_keep_depots_sound()
     ensures save { (d : List Deed) (request : Asked) (input : List ℕ) → IsSound d → IsTrue (is_name request.caller.user) →
         IsTrue (is_name request.caller.client) → IsSound (after d (change_save d request input).deeds) }
@@ -43,7 +43,8 @@ pub fn steps_on_changes_keep_depots_sound()
     ensures checkpoint { (d : List Deed) → IsSound d → IsSound (after d (checkpoint d).deeds) }
 {}
 
-/// Putting fixes on a change and taking them off, shelving files, taking shelved files away and opening them leaves a sound depot sound.
+/// Putting fixes on a change and taking them off, shelving files, taking shelved files away and opening them leaves a
+/// sound depot sound.
 pub fn steps_on_shelves_and_fixes_keep_depots_sound()
     ensures fix { (d : List Deed) (caller : Caller) (n : ℕ) (names : List (List ℕ)) → IsSound d → IsTrue (is_name caller.user) →
         IsSound (after d (fix_step d caller n names).deeds) }

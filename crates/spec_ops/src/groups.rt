@@ -83,8 +83,9 @@ fn save(alloc: Global, input: &[u8], form: &Form) -> Result<Step, AllocError>
     Ok(step)
 }
 
-/// `group -i`: the group has the users of the form that the input spells. It is refused first where it can't be read, then that its name
-/// is none, that it has subgroups, that one of its users is no name, and that it has more than 10,000 of them.
+/// `group -i`: the group has the users of the form that the input spells. It is refused first where it can't be read,
+/// then that its name is none, that it has subgroups, that one of its users is no name, and that it has more than
+/// 10,000 of them.
 pub fn group_save(alloc: Global, input: &[u8]) -> Result<Step, AllocError>
     ensures { IfOk result (λ step. (all : AllRows) (d : List Deed) → IsMade all d d (model.group_save input.now) step) }
 {

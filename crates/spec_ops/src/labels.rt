@@ -63,8 +63,8 @@ fn save(alloc: Global, tables: &Tables, form: Form) -> Result<Step, AllocError>
     keep_form(alloc, SpecKind::Label, "Label", form)
 }
 
-/// `label -i`: the form that the input spells is saved. It is refused first where it can't be read, then that its name is none, and that
-/// the label is locked and stays so. Of the tables it reads that of forms alone.
+/// `label -i`: the form that the input spells is saved. It is refused first where it can't be read, then that its name
+/// is none, and that the label is locked and stays so. Of the tables it reads that of forms alone.
 pub fn label_save(alloc: Global, tables: &Tables, input: &[u8]) -> Result<Step, AllocError>
     ensures { IfOk result (λ step. (d : List Deed) → IsSound d → HasRows (rows_of tables.now) d table_ids.Domain →
         IsMade (rows_of tables.now) d d (model.label_save d input.now) step) }

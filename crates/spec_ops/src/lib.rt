@@ -1,7 +1,8 @@
-//! What the commands do that show and save counters, clients, labels, groups and the protections, as deeds and rows of replies.
+//! What the commands do that show and save counters, clients, labels, groups and the protections, as deeds and rows of
+//! replies.
 //!
-//! Each command answers for all tables. Where those that it reads have the rows of a sound depot, its step is the model's. The one
-//! error is want of memory.
+//! Each command answers for all tables. Where those that it reads have the rows of a sound depot, its step is the
+//! model's. The one error is want of memory.
 #![tactic(auto)]
 
 mod checkpoints;

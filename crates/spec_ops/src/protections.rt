@@ -85,8 +85,8 @@ fn save(alloc: Global, input: &[u8], lines: &[Text]) -> Result<Step, AllocError>
     Ok(step)
 }
 
-/// `protect -i`: the protections have the lines of the form that the input spells, in place of those that they had. It is refused first
-/// where it can't be read, then by its first bad line, and that it has more than 1,000 lines.
+/// `protect -i`: the protections have the lines of the form that the input spells, in place of those that they had. It
+/// is refused first where it can't be read, then by its first bad line, and that it has more than 1,000 lines.
 pub fn protect_save(alloc: Global, input: &[u8]) -> Result<Step, AllocError>
     ensures { IfOk result (λ step. (all : AllRows) (d : List Deed) → IsMade all d d (model.protect_save input.now) step) }
 {

@@ -32,7 +32,8 @@ pub fn steps_change_rows_of_written_tables_alone()
         IsFalse (writes command (key_table key)) → record_of (after d (step d request).deeds) key ≡ record_of d key }
 {}
 
-/// The step of a request whose command doesn't write the table of revisions lands no change: revisions and their contents stay as they were.
+/// The step of a request whose command doesn't write the table of revisions lands no change: revisions and their
+/// contents stay as they were.
 pub fn steps_that_write_no_revisions_land_nothing()
     ensures landings { (d : List Deed) (request : Request) (command : Command) → request.command ≡ Ok command →
         IsFalse (writes command Rev) → landings (after d (step d request).deeds) ≡ landings d }

@@ -15,8 +15,9 @@ ghost use Rattle.step_stores.specs.Stored.{IsStoring};
 ghost use Rattle.stored_contents.specs.Placed.{StandAfter};
 ghost use Rattle.depot_rows.specs.table_changes.Changed.{AllRows, changed_by};
 
-/// Where a step stores what it has to, and its changes are exactly what differs, with each new row as the deeds make it, each content of the depot
-/// after it stands at the spot of its revision's row: where it stood, or where it is stored.
+/// Where a step stores what it has to, and its changes are exactly what differs, with each new row as the deeds make
+/// it, each content of the depot after it stands at the spot of its revision's row: where it stood, or where it is
+/// stored.
 pub fn contents_stand_after_steps()
     ensures { (all : AllRows) (from : ℕ) (d : List Deed) (told : ModelStep) (step : Step) (changes : List Change) → IsSound d → HasRows all d Rev →
         IsStoring all from d told step → AreDifferences all d (after d told.deeds) changes →

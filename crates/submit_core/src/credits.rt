@@ -95,8 +95,8 @@ fn credits_in(
     Ok(credits)
 }
 
-/// What the submit of an opened file takes in: the resolves that were paid, from other files, in their order (Command-Line Reference, "p4 resolve"),
-/// from the table of resolves alone. It reads the rows of that file.
+/// What the submit of an opened file takes in: the resolves that were paid, from other files, in their order
+/// (Command-Line Reference, "p4 resolve"), from the table of resolves alone. It reads the rows of that file.
 pub fn credits_of(
     alloc: Global,
     tables: &Tables,

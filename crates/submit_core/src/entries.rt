@@ -214,7 +214,8 @@ fn add_file(
     Ok(())
 }
 
-/// The files of a change of these openings, whose new contents are stored from a place of the archive on. The one error is want of memory.
+/// The files of a change of these openings, whose new contents are stored from a place of the archive on. The one error
+/// is want of memory.
 pub(crate) fn files_of(
     alloc: Global,
     tables: &Tables,

@@ -96,8 +96,9 @@ fn add_closings(
     Ok(())
 }
 
-/// Adds what a submit of a change under a number does for the jobs that the change fixes: they are closed, and its fixes are those of the number
-/// (Command-Line Reference, "p4 fix", "p4 submit"), from the table of forms alone. It reads the fixes by the change. The one error is want of memory.
+/// Adds what a submit of a change under a number does for the jobs that the change fixes: they are closed, and its
+/// fixes are those of the number (Command-Line Reference, "p4 fix", "p4 submit"), from the table of forms alone. It
+/// reads the fixes by the change. The one error is want of memory.
 pub(crate) fn close_jobs(
     alloc: Global,
     tables: &Tables,

@@ -69,7 +69,8 @@ fn number_row(alloc: Global, number: u32) -> Result<Row, AllocError>
     Ok(row.row())
 }
 
-/// The rows of a submitted change: those of its files, and that of its number. The one error, here and below, is want of memory.
+/// The rows of a submitted change: those of its files, and that of its number. The one error, here and below, is want
+/// of memory.
 pub(crate) fn landed_rows(
     alloc: Global,
     entries: &[Entry],
@@ -125,7 +126,8 @@ fn drop_number(deeds: &mut Deeds, change: u32, number: u32) -> Result<(), AllocE
     deeds.drop_change(change)
 }
 
-/// What a submit does behind its change: it drops its pending number, ends its files and closes its jobs, from the table of forms alone.
+/// What a submit does behind its change: it drops its pending number, ends its files and closes its jobs, from the
+/// table of forms alone.
 pub(crate) fn later_deeds(
     alloc: Global,
     tables: &Tables,

@@ -58,8 +58,9 @@ fn kept_or_next(change: u32, greatest: u64) -> Result<u64, AllocError>
     Ok(number)
 }
 
-/// The number under which a change is submitted, 0 standing for the default one: its own where it is the greatest of all, else the next one, from the
-/// table of counters alone (Command-Line Reference, "p4 submit"). The one error is want of memory.
+/// The number under which a change is submitted, 0 standing for the default one: its own where it is the greatest of
+/// all, else the next one, from the table of counters alone (Command-Line Reference, "p4 submit"). The one error is
+/// want of memory.
 pub(crate) fn landing_number(alloc: Global, tables: &Tables, change: u32) -> Result<u64, AllocError>
     ensures { IfOk result (λ number. (d : List Deed) → HasRows (rows_of tables.now) d table_ids.Counter → number ≡ model.landing_number d change) }
 {

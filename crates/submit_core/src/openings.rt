@@ -18,8 +18,8 @@ use named_files::Asker;
 use opening_reads::openings_of as openings_in;
 use std::alloc::{AllocError, Global};
 
-/// The files that the client of an asker has opened in a change, 0 for the default one, in the order of their paths, from the table of opened files
-/// alone. The one error is want of memory.
+/// The files that the client of an asker has opened in a change, 0 for the default one, in the order of their paths,
+/// from the table of opened files alone. The one error is want of memory.
 pub(crate) fn openings_of(
     alloc: Global,
     tables: &Tables,

@@ -227,10 +227,11 @@ fn submit(
     Ok(step)
 }
 
-/// `submit -d TEXT`: submits the files that the client has opened in its default change, from the tables of counters, groups, protections, forms,
-/// opened files, resolves and revisions alone. It is refused first that no file is opened in it, then that the description is too long; then, by
-/// path, the first file that the caller may not write, that another client has locked, whose base isn't the newest revision, for which a resolve is
-/// owed, whose other end of a move isn't in the change, or that lacks its content; then that the number would be too great, and that there are too
+/// `submit -d TEXT`: submits the files that the client has opened in its default change, from the tables of counters,
+/// groups, protections, forms, opened files, resolves and revisions alone. It is refused first that no file is opened
+/// in it, then that the description is too long; then, by path, the first file that the caller may not write, that
+/// another client has locked, whose base isn't the newest revision, for which a resolve is owed, whose other end of a
+/// move isn't in the change, or that lacks its content; then that the number would be too great, and that there are too
 /// many files. The one error is want of memory; the length of the archive or a number past 64 bits is answered as such.
 pub fn submit_default(
     alloc: Global,
@@ -276,8 +277,9 @@ fn submit_pending(
     }
 }
 
-/// `submit -c N`: the same for the files of a pending change, under its description, from the table of changes too. It is refused before all else that
-/// the change isn't pending, or not of the caller's user and client. A change with shelved files has been refused before.
+/// `submit -c N`: the same for the files of a pending change, under its description, from the table of changes too. It
+/// is refused before all else that the change isn't pending, or not of the caller's user and client. A change with
+/// shelved files has been refused before.
 pub fn submit_change(
     alloc: Global,
     tables: &Tables,

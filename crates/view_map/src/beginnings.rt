@@ -19,7 +19,8 @@ fn ends_with_first(pieces: &[Piece]) -> bool
 }
 
 impl ViewLine {
-    /// With what the files begin, as they are printed, that the line takes to client paths that begin with the start, unless there is none.
+    /// With what the files begin, as they are printed, that the line takes to client paths that begin with the start,
+    /// unless there is none.
     pub(crate) fn beginning(&self, alloc: Global, start: &[u8]) -> Result<Option<Text>, AllocError>
         ensures { IfOk result (λ text. text ≡ beginning_below start.now self.now) }
     {

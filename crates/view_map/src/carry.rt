@@ -50,7 +50,8 @@ fn made_of(alloc: Global, to: &Pattern, texts: &[Text]) -> Result<Option<DepotPa
     }
 }
 
-/// The path that one pattern makes of the texts for which the other's specifiers stand in a path. What doesn't fit takes no memory.
+/// The path that one pattern makes of the texts for which the other's specifiers stand in a path. What doesn't fit
+/// takes no memory.
 fn carry(
     alloc: Global,
     from: &Pattern,

@@ -1,7 +1,7 @@
 //! Client views: which client path a file of the depot has, and which files a client path has.
 //!
-//! A view is read from its lines, as `//depot/main/... //ws1/main/...`. The last line that takes a file decides for it (Command-Line
-//! Reference, "p4 client", "Views").
+//! A view is read from its lines, as `//depot/main/... //ws1/main/...`. The last line that takes a file decides for it
+//! (Command-Line Reference, "p4 client", "Views").
 #![tactic(auto)]
 
 mod beginnings;

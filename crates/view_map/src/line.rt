@@ -214,8 +214,8 @@ fn line_of_sides(
 }
 
 impl ViewLine {
-    /// Reads a line whose client side is to begin with `root`. Of several faults it answers that which stands first in this order: `BadLine`,
-    /// `UnequalSpecifiers`, `WrongRoot`.
+    /// Reads a line whose client side is to begin with `root`. Of several faults it answers that which stands first in
+    /// this order: `BadLine`, `UnequalSpecifiers`, `WrongRoot`.
     #[tactic(auto, using(depot_path::proofs::Answers::right, depot_path::proofs::Answers::after, depot_path::proofs::Answers::fails))]
     pub(crate) fn read(alloc: Global, root: &[u8], text: &[u8]) -> Result<Self, ViewCause>
         ensures value { Answers ViewCause.Memory result (line_of root.now text.now) }

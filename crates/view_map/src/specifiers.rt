@@ -53,7 +53,8 @@ impl Label {
     }
 }
 
-/// The label of the first specifier of some pieces, and the pieces after it, where so many `*` and so many `...` stand before them.
+/// The label of the first specifier of some pieces, and the pieces after it, where so many `*` and so many `...` stand
+/// before them.
 fn next_label(pieces: &[Piece], stars: usize, dots: usize) -> Option<(Label, &[Piece])>
     ensures none { IfNone result (labels_after stars dots pieces.now ≡ []) }
     ensures some { IfSome result (λ found. labels_after stars dots pieces.now ≡ found.0 ∷ labels_after (stars_past found.0 stars) (dots_past found.0 dots) found.1.now) }
@@ -155,8 +156,8 @@ fn answering_texts(
     Ok(answer)
 }
 
-/// The texts of the specifiers of one pattern, in the order of the specifiers of another that has the same ones: the n-th `*` answers the
-/// n-th `*`, the n-th `...` the n-th `...`, and `%%k` answers `%%k`.
+/// The texts of the specifiers of one pattern, in the order of the specifiers of another that has the same ones: the
+/// n-th `*` answers the n-th `*`, the n-th `...` the n-th `...`, and `%%k` answers `%%k`.
 pub fn answering(
     alloc: Global,
     from: &Pattern,

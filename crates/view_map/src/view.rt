@@ -134,7 +134,8 @@ fn add_file(
     Ok(())
 }
 
-/// The files that lines put at a client path, that of the last line first, and whether one of these lines hides the path.
+/// The files that lines put at a client path, that of the last line first, and whether one of these lines hides the
+/// path.
 fn gather(
     alloc: Global,
     lines: &[ViewLine],
@@ -224,8 +225,8 @@ fn beginnings_of(
 }
 
 impl View {
-    /// Reads a view of the client, a line from each text. More than 200 lines are `TooManyLines`, whatever they are; else it answers the first
-    /// bad line, by its fault.
+    /// Reads a view of the client, a line from each text. More than 200 lines are `TooManyLines`, whatever they are;
+    /// else it answers the first bad line, by its fault.
     pub fn from_lines(alloc: Global, client: &Name, lines: &[Text]) -> Result<Self, ViewFault>
         ensures { Answers no_memory result (view_of client.now lines.now) }
     {
@@ -252,8 +253,8 @@ impl View {
         self.lines.as_slice()
     }
 
-    /// The client path of a file, with its rivals: the files that later overlay lines put there too. It looks at the lines from the last until
-    /// one takes the file; a file that no line's depot side fits takes no memory.
+    /// The client path of a file, with its rivals: the files that later overlay lines put there too. It looks at the
+    /// lines from the last until one takes the file; a file that no line's depot side fits takes no memory.
     pub fn to_client(&self, alloc: Global, file: &DepotPath) -> Result<Mapped, AllocError>
         ensures value { IfOk result (λ place. place ≡ mapped self.now file.now) }
         ensures memory { OnErr result (some_depot_fits self.now file.now ≡ true) }
@@ -265,8 +266,9 @@ impl View {
         place_of(alloc, self.lines(), file)
     }
 
-    /// The files mapped to a client path, that of the last line first; several only by overlay lines. It looks at the lines from the last until
-    /// one hides the path from those before it; a path that no line's client side fits takes no memory.
+    /// The files mapped to a client path, that of the last line first; several only by overlay lines. It looks at the
+    /// lines from the last until one hides the path from those before it; a path that no line's client side fits takes
+    /// no memory.
     pub fn to_depot(
         &self,
         alloc: Global,
@@ -282,8 +284,9 @@ impl View {
         files_at(alloc, self.lines(), path)
     }
 
-    /// With which texts the files begin, as they are printed, whose client paths begin with `start` as they are printed: a text for each line
-    /// that may put files there. In path order the files that begin with a text stand together, from it on.
+    /// With which texts the files begin, as they are printed, whose client paths begin with `start` as they are
+    /// printed: a text for each line that may put files there. In path order the files that begin with a text stand
+    /// together, from it on.
     pub fn beginnings(&self, alloc: Global, start: &[u8]) -> Result<Sequence<Text>, AllocError>
         ensures value { IfOk result (λ texts. texts ≡ beginnings start.now self.now) }
         ensures every { (file path : List ℕ) → path_in self.now file ≡ Some path → begins_with (printed path) start.now ≡ true →

@@ -7,7 +7,8 @@ use outside_api::Gate;
 use std::sync::atomic::AtomicBool;
 use std::sync::atomic::Ordering::SeqCst;
 
-/// A gate that holds each of two commands until the other has come to it, or until its turns are spent. A turn is one look.
+/// A gate that holds each of two commands until the other has come to it, or until its turns are spent. A turn is one
+/// look.
 #[derive(Drop)]
 pub struct MeetGate {
     one: (u32, u32),

@@ -33,8 +33,8 @@ impl TurnGate {
         }
     }
 
-    /// Whether the answer to the other command released the one that it holds: not where that one hasn't come, where it is still held, and where
-    /// its turns were spent.
+    /// Whether the answer to the other command released the one that it holds: not where that one hasn't come, where it
+    /// is still held, and where its turns were spent.
     pub fn released(&self) -> bool {
         self.released.load(SeqCst)
     }

@@ -54,7 +54,8 @@ fn read_item<S: Source>(
     }
 }
 
-/// A script that is read command by command: its head first, and then each command with the contents that are in force at its line.
+/// A script that is read command by command: its head first, and then each command with the contents that are in force
+/// at its line.
 pub struct ScriptReader {
     intake: Intake,
     /// The client of the head, until the script ends.
@@ -150,7 +151,8 @@ impl ScriptReader {
         }
     }
 
-    /// The last block of each file of the client workspace, in the order in which the files were first named since they were last cleared.
+    /// The last block of each file of the client workspace, in the order in which the files were first named since they
+    /// were last cleared.
     pub fn contents(&self) -> &IndexMap<ClientPath, Text>
         ensures { result.now.entries ≡ contents_of self.now }
     {

@@ -87,8 +87,8 @@ fn plain_word(text: &[u8]) -> Option<(&[u8], &[u8])>
     }
 }
 
-/// The word with which a text begins, where one does, and what stands behind the word or the first byte. It answers none where neither a
-/// space nor a word begins the text.
+/// The word with which a text begins, where one does, and what stands behind the word or the first byte. It answers
+/// none where neither a space nor a word begins the text.
 fn word_at<'a>(first: u8, text: &'a [u8], after: &'a [u8]) -> Option<(Option<&'a [u8]>, &'a [u8])>
     requires { text.now ≡ first ∷ after.now }
     ensures word { IfSome result (λ cut. words_from 0 text.now ≡ with_maybe (option_copied cut.0) (words_from 0 cut.1.now)) }
