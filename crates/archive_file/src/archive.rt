@@ -64,8 +64,12 @@ impl<D: Disk> Archive<D> {
         ensures spot { IfOk result (λ spot. spot ≡ record { at = at; length = length content.now }) }
         ensures stored { IfOk result (λ spot. AllHave (D.says.may_leave (disk_of self.new)) spot content.now) }
         ensures small { IfOk result (λ spot. end_of spot < 2 ^ 63) }
-        ensures kept { (spot : Spot) (bytes : List ℕ) → end_of spot ≤ at → AllHave (D.says.may_leave (disk_of self.old)) spot bytes → AllHave (D.says.may_leave (disk_of self.new)) spot bytes }
-        ensures any_moment { (spot : Spot) (bytes : List ℕ) → end_of spot ≤ at → AllHave (D.says.may_leave (disk_of self.old)) spot bytes → LeavesOnly D.says (disk_of self.old) (disk_of self.new) (λ c. Has (c 0) spot bytes) }
+        ensures kept { (spot : Spot) (bytes : List ℕ) → end_of spot ≤ at →
+            AllHave (D.says.may_leave (disk_of self.old)) spot bytes →
+            AllHave (D.says.may_leave (disk_of self.new)) spot bytes }
+        ensures any_moment { (spot : Spot) (bytes : List ℕ) → end_of spot ≤ at →
+            AllHave (D.says.may_leave (disk_of self.old)) spot bytes →
+            LeavesOnly D.says (disk_of self.old) (disk_of self.new) (λ c. Has (c 0) spot bytes) }
         ensures told { StillTells (D.says.seen (disk_of self.old)) (D.says.seen (disk_of self.new)) }
         ensures used { used_of self.new ≡ used_of self.old }
         ensures asked { OnOk result (D.says.calls (disk_of self.new) ≡ counted 2 (D.says.calls (disk_of self.old))) }
@@ -89,8 +93,12 @@ impl<D: Disk> Archive<D> {
         ensures small { IfOk result (λ spot. end_of spot < 2 ^ 63) }
         // What a read gives before the place it still gives.
         ensures read { OnOk result ((spot : Spot) (bytes : List ℕ) → end_of spot ≤ at → AllHave (D.says.seen (disk_of self.old)) spot bytes → AllHave (D.says.seen (disk_of self.new)) spot bytes) }
-        ensures kept { (spot : Spot) (bytes : List ℕ) → end_of spot ≤ at → AllHave (D.says.may_leave (disk_of self.old)) spot bytes → AllHave (D.says.may_leave (disk_of self.new)) spot bytes }
-        ensures any_moment { (spot : Spot) (bytes : List ℕ) → end_of spot ≤ at → AllHave (D.says.may_leave (disk_of self.old)) spot bytes → LeavesOnly D.says (disk_of self.old) (disk_of self.new) (λ c. Has (c 0) spot bytes) }
+        ensures kept { (spot : Spot) (bytes : List ℕ) → end_of spot ≤ at →
+            AllHave (D.says.may_leave (disk_of self.old)) spot bytes →
+            AllHave (D.says.may_leave (disk_of self.new)) spot bytes }
+        ensures any_moment { (spot : Spot) (bytes : List ℕ) → end_of spot ≤ at →
+            AllHave (D.says.may_leave (disk_of self.old)) spot bytes →
+            LeavesOnly D.says (disk_of self.old) (disk_of self.new) (λ c. Has (c 0) spot bytes) }
         ensures told { StillTells (D.says.seen (disk_of self.old)) (D.says.seen (disk_of self.new)) }
         ensures used { used_of self.new ≡ used_of self.old }
         ensures asked { D.says.calls (disk_of self.new) ≡ counted 1 (D.says.calls (disk_of self.old)) }
@@ -134,7 +142,8 @@ impl<D: Disk> Archive<D> {
     /// The content at a spot that ends at or before `used`.
     pub fn read(&mut self, alloc: Global, spot: Spot) -> Result<Text, ContentFault>
         requires { end_of spot ≤ used_of self.old }
-        ensures content { (files : Files) → D.says.seen (disk_of self.old) files → IfOk result (λ text. text ≡ take spot.length (drop spot.at (files 0))) }
+        ensures content { (files : Files) → D.says.seen (disk_of self.old) files →
+            IfOk result (λ text. text ≡ take spot.length (drop spot.at (files 0))) }
         ensures same { Same (D.says.seen (disk_of self.old)) (D.says.seen (disk_of self.new)) }
         ensures crash { NoMore (D.says.may_leave (disk_of self.old)) (D.says.may_leave (disk_of self.new)) }
         ensures any_moment { LeavesOnly D.says (disk_of self.old) (disk_of self.new) (D.says.may_leave (disk_of self.old)) }

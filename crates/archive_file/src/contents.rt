@@ -44,7 +44,8 @@ pub trait Contents {
         // It is absent exactly where it ends behind what is used: else it would be answered.
         ensures absent { (bytes : List ℕ) → tells self.new bytes → result ≡ Err Absent → length bytes < end_of spot }
         ensures whole { IfOk result (λ text. length text ≡ spot.length) }
-        ensures grows { (before : List ℕ) → tells self.old before → (now : List ℕ) × tells self.new now × IsFront before now }
+        ensures grows { (before : List ℕ) → tells self.old before →
+            (now : List ℕ) × tells self.new now × IsFront before now }
         ensures keeps { keeps self.old self.new }
         ensures only { RisesForFailures (faults self.old) (faults self.new) result }
         ensures cause { HasContentsCause (faults self.old) (faults self.new) result };

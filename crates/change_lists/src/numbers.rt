@@ -33,7 +33,8 @@ fn has_from(changes: &Version, change: u32) -> bool
 
 /// The greatest number of a change, 0 where there is none. It halves the numbers among which it is until one is left.
 pub(crate) fn newest_number(tables: &Tables) -> u32
-    ensures above { (n : ℕ) → result < n → n ≤ 4294967295 → row_at (keys.Change n) (rows_of tables.now table_ids.Change) ≡ None }
+    ensures above { (n : ℕ) → result < n → n ≤ 4294967295 →
+        row_at (keys.Change n) (rows_of tables.now table_ids.Change) ≡ None }
     ensures reached { 0 < result → rows_from (keys.Change result) (rows_of tables.now table_ids.Change) ≡ [] → ⊥ }
 {
     let changes = tables.version(TableId::Change);

@@ -131,7 +131,8 @@ fn know_tables(tables: &Tables)
 pub fn print_generation(alloc: Global, tables: &Tables, generation: u32) -> Result<Text, AllocError>
     ensures text { IfOk result (λ text. text ≡ checkpoint_text generation (rows_of tables.now)) }
     // Where each row has a text, these are read again as the rows of the checkpoint.
-    ensures checkpoint { AreRecords (puts_of (rows_of tables.now)) → IfOk result (IsCheckpointOf generation (rows_of tables.now)) }
+    ensures checkpoint { AreRecords (puts_of (rows_of tables.now)) →
+        IfOk result (IsCheckpointOf generation (rows_of tables.now)) }
 {
     know_tables(tables);
     let size = measure_tables(alloc, tables)?;

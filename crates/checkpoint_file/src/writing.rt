@@ -34,7 +34,8 @@ pub fn write_generation<D: Disk>(
 ) -> Result<u32, CheckpointFault>
     requires rest { (was : Committed) × Stands D.says journal.old was nothing }
 
-    ensures last { generation_of_journal journal.old ≡ 4095 → (result ≡ Err NoGeneration) × (journal.new ≡ journal.old) }
+    ensures last { generation_of_journal journal.old ≡ 4095 →
+        (result ≡ Err NoGeneration) × (journal.new ≡ journal.old) }
     ensures only_last { result ≡ Err NoGeneration → generation_of_journal journal.old ≡ 4095 }
 
     // It is of the next generation, with this checkpoint.
@@ -51,29 +52,37 @@ pub fn write_generation<D: Disk>(
         LeavesOnly D.says (disk_of journal.old) (disk_of journal.new) (HasEither was (with_generation was text.now)) }
 
     // What is read of the next generation are the rows of the text.
-    ensures rows { (was : Committed) (after : AllRows) → IsCheckpointOf (was.generation + 1) after text.now → HasAllRows (with_generation was text.now) after }
+    ensures rows { (was : Committed) (after : AllRows) → IsCheckpointOf (was.generation + 1) after text.now →
+        HasAllRows (with_generation was text.now) after }
     // At every moment each image holds the rows before, or is of the next generation and holds those of the text.
-    ensures any_moment { (was : Committed) (rows after : AllRows) → Stands D.says journal.old was nothing → HasAllRows was rows → IsCheckpointOf (was.generation + 1) after text.now →
+    ensures any_moment { (was : Committed) (rows after : AllRows) → Stands D.says journal.old was nothing →
+        HasAllRows was rows → IsCheckpointOf (was.generation + 1) after text.now →
         LeavesOnly D.says (disk_of journal.old) (disk_of journal.new) (HoldsEither was rows text.now after) }
     // So at every moment the files stand for the depot before, or for that depot with the new number of its generation;
     // afterwards for the latter.
-    ensures opens { (was : Committed) (rows : AllRows) (d : List Deed) (archive : Files) → Stands D.says journal.old was nothing → IsOfDepot was rows d archive → IsNext was rows d text.now →
+    ensures opens { (was : Committed) (rows : AllRows) (d : List Deed) (archive : Files) →
+        Stands D.says journal.old was nothing → IsOfDepot was rows d archive → IsNext was rows d text.now →
         LeavesOnly D.says (disk_of journal.old) (disk_of journal.new) (StandsForEither (was.generation + 1) d archive) }
-    ensures opened { (was : Committed) (rows : AllRows) (d : List Deed) (archive : Files) → Stands D.says journal.old was nothing → IsOfDepot was rows d archive → IsNext was rows d text.now →
+    ensures opened { (was : Committed) (rows : AllRows) (d : List Deed) (archive : Files) →
+        Stands D.says journal.old was nothing → IsOfDepot was rows d archive → IsNext was rows d text.now →
         OnOk result ((image : Files) → D.says.may_leave (disk_of journal.new) image → StandFor (of_generation (was.generation + 1) d) image archive) }
 
     // The files of the generations before stay as they are, and so do this one's, at every moment.
     ensures older { Follows (SameBefore (3 + 2 * generation_of_journal journal.old)) (D.says.may_leave (disk_of journal.old)) (D.says.may_leave (disk_of journal.new)) }
     ensures any_older { LeavesOnly D.says (disk_of journal.old) (disk_of journal.new) (After (SameBefore (3 + 2 * generation_of_journal journal.old)) (D.says.may_leave (disk_of journal.old))) }
-    ensures keeps { (older : List (List (List ℕ))) → KeepsOlder D.says journal.old older → IsErr result → KeepsOlder D.says journal.new older }
+    ensures keeps { (older : List (List (List ℕ))) → KeepsOlder D.says journal.old older → IsErr result →
+        KeepsOlder D.says journal.new older }
     // The journal that was the newest is one of them then.
-    ensures closes { (was : Committed) (older : List (List (List ℕ))) → Stands D.says journal.old was nothing → KeepsOlder D.says journal.old older →
+    ensures closes { (was : Committed) (older : List (List (List ℕ))) → Stands D.says journal.old was nothing →
+        KeepsOlder D.says journal.old older →
         OnOk result (KeepsOlder D.says journal.new (older ++ was.groups ∷ [])) }
 
-    ensures at_most { generation_of_journal journal.old ≢ 4095 → D.says.calls (disk_of journal.new) ≤ counted 5 (D.says.calls (disk_of journal.old)) }
+    ensures at_most { generation_of_journal journal.old ≢ 4095 →
+        D.says.calls (disk_of journal.new) ≤ counted 5 (D.says.calls (disk_of journal.old)) }
     ensures never_falls { D.says.faults (disk_of journal.old) ≤ D.says.faults (disk_of journal.new) }
     ensures only { result ≢ Err DiskFault → D.says.faults (disk_of journal.new) ≡ D.says.faults (disk_of journal.old) }
-    ensures cause { result ≡ Err DiskFault → HasRisen (D.says.faults (disk_of journal.old)) (D.says.faults (disk_of journal.new)) }
+    ensures cause { result ≡ Err DiskFault →
+        HasRisen (D.says.faults (disk_of journal.old)) (D.says.faults (disk_of journal.new)) }
 {
     if journal.generation() >= LAST {
         return Err(CheckpointFault::NoGeneration);

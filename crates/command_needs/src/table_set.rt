@@ -40,7 +40,8 @@ impl TableSet {
 
     /// These and one more.
     pub fn with(self, table: TableId) -> TableSet
-        ensures { (other : AnyTable) → has_table result other ≡ (has_table self other || (table_number table == table_number other)) }
+        ensures { (other : AnyTable) →
+            has_table result other ≡ (has_table self other || (table_number table == table_number other)) }
     {
         let mut has = self.has;
         has[table.number()] = true;

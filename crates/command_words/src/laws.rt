@@ -10,5 +10,6 @@ ghost use Rattle.command_words.specs.WellFormed.{IsWellFormed};
 /// move or an integration answer one another, no counter that the program keeps is set, names are names, no number is
 /// above 2,147,483,647, and the arguments of commands that take no revision ask for the head.
 pub fn words_spell_well_formed_commands()
-    ensures { (line : Line) (has_input : Bool) (command : Command) → command_of line has_input ≡ Ok command → IsWellFormed command }
+    ensures { (line : Line) (has_input : Bool) (command : Command) → command_of line has_input ≡ Ok command →
+        IsWellFormed command }
 {}

@@ -13,6 +13,7 @@ ghost use Rattle.depot_rows.specs.table_changes.Changed.{AllRows};
 /// at the spots of the same rows, sound depots with the same rows have the same contents.
 pub fn depots_of_one_archive_have_the_same_contents()
     ensures rows { (rows : AllRows) (d e : List Deed) → Stand rows d → Stand rows e → SameRows d e }
-    ensures contents { (file : List ℕ) (rows : AllRows) (d e : List Deed) → HasContents file rows d → HasContents file rows e → SameRows d e →
+    ensures contents { (file : List ℕ) (rows : AllRows) (d e : List Deed) → HasContents file rows d →
+        HasContents file rows e → SameRows d e →
         IsSound d → IsSound e → SameContents d e }
 {}

@@ -70,21 +70,27 @@ pub fn take_checkpoint<D: Disk>(
     ensures number { IfOk result (λ begun. begun ≡ next_generation (generation_of_journal journal.old)) }
     ensures none { result ≡ Ok None → journal.new ≡ journal.old }
     // The files then stand for the depot after the deeds of the checkpoint.
-    ensures taken { (was : Committed) (d : List Deed) (archive : Files) → Stands D.says journal.old was nothing → IsOfDepot was (rows_of tables.now) d archive →
+    ensures taken { (was : Committed) (d : List Deed) (archive : Files) → Stands D.says journal.old was nothing →
+        IsOfDepot was (rows_of tables.now) d archive →
         OnOk result ((image : Files) → D.says.may_leave (disk_of journal.new) image → StandFor (checkpointed d) image archive) }
     // At every moment they stand for the depot before or after these.
-    ensures any_moment { (was : Committed) (d : List Deed) (archive : Files) → Stands D.says journal.old was nothing → IsOfDepot was (rows_of tables.now) d archive →
+    ensures any_moment { (was : Committed) (d : List Deed) (archive : Files) → Stands D.says journal.old was nothing →
+        IsOfDepot was (rows_of tables.now) d archive →
         LeavesOnly D.says (disk_of journal.old) (disk_of journal.new) (StandsBeforeOrAfter d archive) }
     // The journal that was the newest is then one of those before, and the next generation has the rows after these
     // deeds.
-    ensures begun { (was : Committed) (d : List Deed) (older : List (List (List ℕ))) → CanBegin D.says journal.old was (rows_of tables.now) d older →
+    ensures begun { (was : Committed) (d : List Deed) (older : List (List (List ℕ))) →
+        CanBegin D.says journal.old was (rows_of tables.now) d older →
         IfOk result (λ begun. IfSome begun (λ number. HasBegun D.says journal.new was (rows_of tables.now) d older)) }
-    ensures begins { (was : Committed) (d : List Deed) (older : List (List (List ℕ))) → CanBegin D.says journal.old was (rows_of tables.now) d older →
+    ensures begins { (was : Committed) (d : List Deed) (older : List (List (List ℕ))) →
+        CanBegin D.says journal.old was (rows_of tables.now) d older →
         IsErr result → MayHaveBegun D.says journal.new was (rows_of tables.now) d older }
     ensures untouched { result ≡ Err faults.Memory → journal.new ≡ journal.old }
     ensures never_falls { D.says.faults (disk_of journal.old) ≤ D.says.faults (disk_of journal.new) }
-    ensures only { result ≢ Err faults.DiskFault → D.says.faults (disk_of journal.new) ≡ D.says.faults (disk_of journal.old) }
-    ensures cause { result ≡ Err faults.DiskFault → HasRisen (D.says.faults (disk_of journal.old)) (D.says.faults (disk_of journal.new)) }
+    ensures only { result ≢ Err faults.DiskFault →
+        D.says.faults (disk_of journal.new) ≡ D.says.faults (disk_of journal.old) }
+    ensures cause { result ≡ Err faults.DiskFault →
+        HasRisen (D.says.faults (disk_of journal.old)) (D.says.faults (disk_of journal.new)) }
 {
     let generation = journal.generation();
     if generation >= LAST {

@@ -31,7 +31,8 @@ fn is_submitted(row: Option<&ChangeRecord>) -> bool
 
 /// Whether a change was submitted.
 fn is_landed(tables: &Tables, change: u32) -> bool
-    ensures { (d : List Deed) → IsSound d → HasRows (rows_of tables.now) d table_ids.Change → result ≡ spec.is_landed d change }
+    ensures { (d : List Deed) → IsSound d → HasRows (rows_of tables.now) d table_ids.Change →
+        result ≡ spec.is_landed d change }
 {
     let row = change_of(tables, change);
     is_submitted(row)
@@ -39,7 +40,8 @@ fn is_landed(tables: &Tables, change: u32) -> bool
 
 /// How many of the first numbers are those of submitted changes.
 fn landed_up_to(tables: &Tables, last: u32) -> u64
-    ensures { (d : List Deed) → IsSound d → HasRows (rows_of tables.now) d table_ids.Change → result ≡ spec.landed_up_to d last }
+    ensures { (d : List Deed) → IsSound d → HasRows (rows_of tables.now) d table_ids.Change →
+        result ≡ spec.landed_up_to d last }
 {
     let mut count: u64 = 0;
     for before in 0..last {

@@ -38,7 +38,8 @@ fn pull_more<D: Disk>(alloc: Global, up: &mut Node<D>, node: &mut Node<D>) -> Re
     ensures stopped { IfErr result (HaveStopped D.says up.old node.old up.new node.new) }
     ensures up_never_falls { NeverFalls D.says (files_of up.old) (files_of up.new) }
     ensures node_never_falls { NeverFalls D.says (files_of node.old) (files_of node.new) }
-    ensures cause { result ≡ Err causes.Fault → PairRose D.says (files_of up.old) (files_of up.new) ⊎ PairRose D.says (files_of node.old) (files_of node.new) }
+    ensures cause { result ≡ Err causes.Fault →
+        PairRose D.says (files_of up.old) (files_of up.new) ⊎ PairRose D.says (files_of node.old) (files_of node.new) }
 {
     match node.pull(alloc, &mut up.link, &mut up.archive)? {
         Moved::Nothing | Moved::Taken { bytes: 0, .. } => Err(ChainCause::Memory),
@@ -62,7 +63,8 @@ fn pull_all<D: Disk>(
     ensures stopped { IfErr result (HaveStopped D.says up.old node.old up.new node.new) }
     ensures up_never_falls { NeverFalls D.says (files_of up.old) (files_of up.new) }
     ensures node_never_falls { NeverFalls D.says (files_of node.old) (files_of node.new) }
-    ensures cause { result ≡ Err causes.Fault → PairRose D.says (files_of up.old) (files_of up.new) ⊎ PairRose D.says (files_of node.old) (files_of node.new) }
+    ensures cause { result ≡ Err causes.Fault →
+        PairRose D.says (files_of up.old) (files_of up.new) ⊎ PairRose D.says (files_of node.old) (files_of node.new) }
 {
     for _ in 0..u64::MAX {
         let (reached, has) = node.position();
@@ -92,7 +94,8 @@ pub(crate) fn follow<D: Disk>(
     ensures ended { IfErr result (λ cause. HasStopped D.says up.old node.old up.new node.new cause) }
     ensures up_never_falls { NeverFalls D.says (files_of up.old) (files_of up.new) }
     ensures node_never_falls { NeverFalls D.says (files_of node.old) (files_of node.new) }
-    ensures cause { result ≡ Err causes.Fault → PairRose D.says (files_of up.old) (files_of up.new) ⊎ PairRose D.says (files_of node.old) (files_of node.new) }
+    ensures cause { result ≡ Err causes.Fault →
+        PairRose D.says (files_of up.old) (files_of up.new) ⊎ PairRose D.says (files_of node.old) (files_of node.new) }
 {
     if let Some(departure) = node.departs(up)? {
         return Err(ChainCause::Apart(departure));

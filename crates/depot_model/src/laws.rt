@@ -22,7 +22,8 @@ pub fn empty_depot_is_sound()
 
 /// Setting or deleting a counter that the program doesn't keep itself leaves a sound depot sound.
 pub fn counters_keep_depots_sound()
-    ensures { (d : List Deed) (name : List ℕ) (value : Option ℕ) → IsSound d → is_name name ≡ true → is_free name ≡ true → IsSound (Count name value ∷ d) }
+    ensures { (d : List Deed) (name : List ℕ) (value : Option ℕ) → IsSound d → is_name name ≡ true →
+        is_free name ≡ true → IsSound (Count name value ∷ d) }
 {}
 
 /// The greatest number of a change never falls, no landed change has a greater one, and a pending change, or the
@@ -30,7 +31,8 @@ pub fn counters_keep_depots_sound()
 pub fn numbers_rise()
     ensures never_falls { (d : List Deed) (deed : Deed) → top d ≤ top (deed ∷ d) }
     ensures landed { (d : List Deed) (l : Landing) → Contains (landings d) l → l.change ≤ top d }
-    ensures lands_above { (d : List Deed) (n : ℕ) (l : Landing) → NotBoth d → (n ≡ 0) ⊎ IsSome (pending d n) → Contains (landings d) l →
+    ensures lands_above { (d : List Deed) (n : ℕ) (l : Landing) → NotBoth d → (n ≡ 0) ⊎ IsSome (pending d n) →
+        Contains (landings d) l →
         l.change < landing_number d n }
 {}
 

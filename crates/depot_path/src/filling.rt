@@ -30,7 +30,8 @@ fn begin_column(alloc: Global, text: &[u8]) -> Result<Vec<bool>, AllocError>
 /// Makes the column of the pieces that begin with one from the column of those after it.
 fn add_piece(piece: Piece, text: &[u8], column: &mut [bool])
     requires { length column.old ≡ length text.now + 1 }
-    ensures { (pieces : List Piece) → IsColumn pieces text.now column.old → IsColumn (piece ∷ pieces) text.now column.new }
+    ensures { (pieces : List Piece) → IsColumn pieces text.now column.old →
+        IsColumn (piece ∷ pieces) text.now column.new }
 {
     let mut at = text.len();
     let mut below = column[at];
@@ -129,7 +130,8 @@ fn texts_by_columns(
 
 /// How many bytes stand before the first specifier. What fits begins with them, and has its texts behind them.
 fn literal_length(pieces: &[Piece]) -> usize
-    ensures { (text : List ℕ) → fit_test pieces.now text ≡ true → texts_in (drop result pieces.now) (drop result text) ≡ texts_in pieces.now text }
+    ensures { (text : List ℕ) → fit_test pieces.now text ≡ true →
+        texts_in (drop result pieces.now) (drop result text) ≡ texts_in pieces.now text }
 {
     let mut count = 0;
     while count < pieces.len() && !is_specifier(pieces[count]) {

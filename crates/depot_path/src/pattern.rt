@@ -228,7 +228,8 @@ impl Pattern {
     /// path order the paths that begin so stand together, from this text on.
     pub fn beginning(&self, alloc: Global) -> Result<Text, AllocError>
         ensures value { IfOk result (λ text. text ≡ printed (literal self.now)) }
-        ensures every { (path : List ℕ) → fits self.now path ≡ true → begins_with (printed path) (printed (literal self.now)) ≡ true }
+        ensures every { (path : List ℕ) → fits self.now path ≡ true →
+            begins_with (printed path) (printed (literal self.now)) ≡ true }
     {
         let bytes = literal_bytes(alloc, self.pieces.as_slice())?;
         print_bytes(alloc, bytes.as_bytes())
@@ -240,5 +241,6 @@ impl Pattern {
 pub fn texts_come_first()
     ensures first { (p : List Piece) (t : List ℕ) (ts : List (List ℕ)) → texts p t ≡ Some ts → AreTexts p t ts }
     ensures only { (p : List Piece) (t : List ℕ) (ts : List (List ℕ)) → AreTexts p t ts → texts p t ≡ Some ts }
-    ensures every { (p : List Piece) (t : List ℕ) (us : List (List ℕ)) → IsFilling p t us → (ts : List (List ℕ)) × (texts p t ≡ Some ts) }
+    ensures every { (p : List Piece) (t : List ℕ) (us : List (List ℕ)) → IsFilling p t us →
+        (ts : List (List ℕ)) × (texts p t ≡ Some ts) }
 {}

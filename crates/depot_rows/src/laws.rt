@@ -39,7 +39,8 @@ pub fn deeds_do_to_rows_what_they_do_to_depots()
         AreRowsIn before d table → IsDeed d done deed → Needs done d → AreRowsIn (effect done before) (deed ∷ d) table }
     ensures needed { (d : List model.Deed) (done : Deed) → NotBoth d → May done (record_of d) → Needs done d }
     ensures rows { (table : TableId) (before : Rows) (d : List model.Deed) (done : Deed) (deed : model.Deed) →
-        AreRowsIn before d table → NotBoth d → IsDeed d done deed → May done (record_of d) → AreRowsIn (effect done before) (deed ∷ d) table }
+        AreRowsIn before d table → NotBoth d → IsDeed d done deed → May done (record_of d) →
+        AreRowsIn (effect done before) (deed ∷ d) table }
     ensures apart { (d : List model.Deed) (done : Deed) (deed : model.Deed) →
         NotBoth d → IsDeed d done deed → May done (record_of d) → NotBoth (deed ∷ d) }
 {}
@@ -47,7 +48,8 @@ pub fn deeds_do_to_rows_what_they_do_to_depots()
 /// The rows after deeds are their effects in turn.
 pub fn deeds_do_so_in_turn()
     ensures rows { (table : TableId) (before : Rows) (d : List model.Deed) (dones : List Deed) (deeds : List model.Deed) →
-        AreRowsIn before d table → NotBoth d → Follow d dones deeds → AreRowsIn (effects dones before) (after d deeds) table }
+        AreRowsIn before d table → NotBoth d → Follow d dones deeds →
+        AreRowsIn (effects dones before) (after d deeds) table }
     ensures apart { (d : List model.Deed) (dones : List Deed) (deeds : List model.Deed) →
         NotBoth d → Follow d dones deeds → NotBoth (after d deeds) }
 {}
@@ -64,9 +66,12 @@ pub fn depots_with_the_same_rows_stay_so()
 /// number is above all others, isn't submitted; a file whose lock nobody else has may be locked; and the files of a
 /// submitted change are paths, each once.
 pub fn deeds_of_commands_may_follow()
-    ensures unlanded { (d : List model.Deed) (n : ℕ) → landing d n ≡ None → IsFalse (is_submitted (record_of d (keys.Change n))) }
-    ensures pending { (d : List model.Deed) (n : ℕ) → IsSome (pending d n) → IsFalse (is_submitted (record_of d (keys.Change n))) }
-    ensures above { (d : List model.Deed) (n : ℕ) → IsSound d → top d < n → IsFalse (is_submitted (record_of d (keys.Change n))) }
+    ensures unlanded { (d : List model.Deed) (n : ℕ) → landing d n ≡ None →
+        IsFalse (is_submitted (record_of d (keys.Change n))) }
+    ensures pending { (d : List model.Deed) (n : ℕ) → IsSome (pending d n) →
+        IsFalse (is_submitted (record_of d (keys.Change n))) }
+    ensures above { (d : List model.Deed) (n : ℕ) → IsSound d → top d < n →
+        IsFalse (is_submitted (record_of d (keys.Change n))) }
     ensures free { (d : List model.Deed) (held : Held) → IsTrue (is_path held.path) →
         (holder d held.path ≡ None) ⊎ (holder d held.path ≡ Some held.client) → IsFree held (record_of d) }
     ensures landed { (d : List model.Deed) (request : Request) (n : ℕ) (text : List ℕ) (l : Landing) → IsSound d →

@@ -11,6 +11,8 @@ ghost use Rattle.recovery.specs.Standing.{StandFor};
 /// `open_files` opens them, a fault of a disk and want of memory aside, and no others: so it answers that they are
 /// unmade or damaged exactly where they stand for no depot.
 pub fn whole_files_stand_for_depots()
-    ensures some { (journal archive : Files) (rows : AllRows) → HoldWhole journal archive rows → (d : List Deed) × StandFor d journal archive }
-    ensures no_others { (journal archive : Files) (d : List Deed) → StandFor d journal archive → (rows : AllRows) × HoldWhole journal archive rows }
+    ensures some { (journal archive : Files) (rows : AllRows) → HoldWhole journal archive rows →
+        (d : List Deed) × StandFor d journal archive }
+    ensures no_others { (journal archive : Files) (d : List Deed) → StandFor d journal archive →
+        (rows : AllRows) × HoldWhole journal archive rows }
 {}

@@ -11,5 +11,6 @@ ghost use Rattle.depots_of_rows.specs.Telling.{all_unplaced, Contents, KeepAllRu
 pub fn rows_that_keep_rules_stand()
     ensures some { (rows : AllRows) (contents : Contents) → KeepAllRules contents (all_unplaced rows) →
         (d : List Deed) × (Stand rows d × HasTheseContents contents d) }
-    ensures no_others { (rows : AllRows) (d : List Deed) → Stand rows d → (contents : Contents) × KeepAllRules contents (all_unplaced rows) }
+    ensures no_others { (rows : AllRows) (d : List Deed) → Stand rows d →
+        (contents : Contents) × KeepAllRules contents (all_unplaced rows) }
 {}

@@ -32,7 +32,8 @@ fn number_of(digits: &[u8]) -> Option<u64>
 
 /// The number whose digits stand before the first such byte, and what follows that byte.
 fn number_before(ender: u8, bytes: &[u8]) -> Option<(u64, &[u8])>
-    ensures number { (n : ℕ) (after : List ℕ) → ender < 48 → n < 2 ^ 64 → bytes.now ≡ decimal n ++ ender ∷ after → IsSomeAnd result (λ x. (x.0 ≡ n) × (x.1.now ≡ after)) }
+    ensures number { (n : ℕ) (after : List ℕ) → ender < 48 → n < 2 ^ 64 → bytes.now ≡ decimal n ++ ender ∷ after →
+        IsSomeAnd result (λ x. (x.0 ≡ n) × (x.1.now ≡ after)) }
     ensures within { IfSome result (λ x. length x.1.now ≤ length bytes.now) }
 {
     let end = place_of(ender, bytes)?;
@@ -44,8 +45,10 @@ fn number_before(ender: u8, bytes: &[u8]) -> Option<(u64, &[u8])>
 
 /// The bytes of a head's rest, from its number on, and of the records that it promises.
 fn length_from_number(rest: &[u8]) -> Option<u64>
-    ensures { (number size : ℕ) (after : List ℕ) → number < 2 ^ 63 → size < 2 ^ 63 → rest.now ≡ decimal number ++ 32 ∷ (decimal size ++ 10 ∷ after) →
-        length (decimal number) + length (decimal size) + 2 + size < 2 ^ 64 → result ≡ Some (length (decimal number) + length (decimal size) + 2 + size) }
+    ensures { (number size : ℕ) (after : List ℕ) → number < 2 ^ 63 → size < 2 ^ 63 →
+        rest.now ≡ decimal number ++ 32 ∷ (decimal size ++ 10 ∷ after) →
+        length (decimal number) + length (decimal size) + 2 + size < 2 ^ 64 →
+        result ≡ Some (length (decimal number) + length (decimal size) + 2 + size) }
 {
     let (_, line) = number_before(b' ', rest)?;
     let (size, records) = number_before(b'\n', line)?;

@@ -82,7 +82,8 @@ impl<D: Disk> Journal<D> {
     /// that length in bytes. Makes no call of the disk.
     pub fn adopt(disk: D, generation: u32, groups: u64, length: u64) -> Self
         requires { (was : Committed) × CanBeAdopted D.says disk generation groups length was }
-        ensures stands { (was : Committed) → CanBeAdopted D.says disk generation groups length was → Stands D.says result was nothing }
+        ensures stands { (was : Committed) → CanBeAdopted D.says disk generation groups length was →
+            Stands D.says result was nothing }
         ensures disk { disk_of result ≡ disk }
     {
         Journal {
@@ -148,7 +149,8 @@ impl<D: Disk> Journal<D> {
         // The files of the generations before stay as they are, at every moment.
         ensures older { Follows (SameBefore (1 + 2 * generation_of_journal self.old)) (D.says.may_leave (disk_of self.old)) (D.says.may_leave (disk_of self.new)) }
         ensures any_older { LeavesOnly D.says (disk_of self.old) (disk_of self.new) (After (SameBefore (1 + 2 * generation_of_journal self.old)) (D.says.may_leave (disk_of self.old))) }
-        ensures keeps { (older : List (List (List ℕ))) → KeepsOlder D.says self.old older → KeepsOlder D.says self.new older }
+        ensures keeps { (older : List (List (List ℕ))) → KeepsOlder D.says self.old older →
+            KeepsOlder D.says self.new older }
 
         ensures asked { OnOk result (D.says.calls (disk_of self.new) ≡ counted 4 (D.says.calls (disk_of self.old))) }
         ensures at_most { D.says.calls (disk_of self.new) ≤ counted 4 (D.says.calls (disk_of self.old)) }
@@ -189,7 +191,8 @@ impl<D: Disk> Journal<D> {
         // The files of the generations before stay as they are, at every moment.
         ensures older { Follows (SameBefore (1 + 2 * generation_of_journal self.old)) (D.says.may_leave (disk_of self.old)) (D.says.may_leave (disk_of self.new)) }
         ensures any_older { LeavesOnly D.says (disk_of self.old) (disk_of self.new) (After (SameBefore (1 + 2 * generation_of_journal self.old)) (D.says.may_leave (disk_of self.old))) }
-        ensures keeps { (older : List (List (List ℕ))) → KeepsOlder D.says self.old older → KeepsOlder D.says self.new older }
+        ensures keeps { (older : List (List (List ℕ))) → KeepsOlder D.says self.old older →
+            KeepsOlder D.says self.new older }
         ensures asked { (was : Committed) (doubt : Doubtful) → Stands D.says self.old was doubt → doubt ≢ nothing →
             OnOk result (D.says.calls (disk_of self.new) ≡ counted 2 (D.says.calls (disk_of self.old))) }
         ensures at_most { (was : Committed) (doubt : Doubtful) → Stands D.says self.old was doubt → doubt ≢ nothing →
@@ -238,9 +241,11 @@ impl<D: Disk> Journal<D> {
         // The files of the generations before stay as they are, and so do this one's, at every moment.
         ensures older { Follows (SameBefore (3 + 2 * generation_of_journal self.old)) (D.says.may_leave (disk_of self.old)) (D.says.may_leave (disk_of self.new)) }
         ensures any_older { LeavesOnly D.says (disk_of self.old) (disk_of self.new) (After (SameBefore (3 + 2 * generation_of_journal self.old)) (D.says.may_leave (disk_of self.old))) }
-        ensures keeps { (older : List (List (List ℕ))) → KeepsOlder D.says self.old older → IsErr result → KeepsOlder D.says self.new older }
+        ensures keeps { (older : List (List (List ℕ))) → KeepsOlder D.says self.old older → IsErr result →
+            KeepsOlder D.says self.new older }
         // The journal that was the newest is one of them then.
-        ensures closes { (was : Committed) (older : List (List (List ℕ))) → Stands D.says self.old was nothing → KeepsOlder D.says self.old older →
+        ensures closes { (was : Committed) (older : List (List (List ℕ))) → Stands D.says self.old was nothing →
+            KeepsOlder D.says self.old older →
             OnOk result (KeepsOlder D.says self.new (older ++ was.groups ∷ [])) }
 
         ensures asked { OnOk result (D.says.calls (disk_of self.new) ≡ counted 5 (D.says.calls (disk_of self.old))) }

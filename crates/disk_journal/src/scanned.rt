@@ -26,7 +26,8 @@ impl Scanned {
 
     /// A place in the text of a generation at which a mark stands: its front, where another generation was scanned.
     pub(crate) fn place_in(self, generation: u32) -> u64
-        ensures reached { (groups : List (List ℕ)) → (generation ≡ self.generation → IsReached groups self.place) → IsReached groups result }
+        ensures reached { (groups : List (List ℕ)) → (generation ≡ self.generation → IsReached groups self.place) →
+            IsReached groups result }
         ensures short { result < 2 ^ 63 }
     {
         if generation == self.generation {

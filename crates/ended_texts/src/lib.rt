@@ -102,7 +102,8 @@ pub fn script_line(
     what: ScriptFaultKind,
     place: u64,
 ) -> Result<String, AllocError>
-    ensures line { (number : ℕ) → line ≡ Some number → IfOk result (λ text. string_bytes text ≡ bad_line name.now number (wrong what)) }
+    ensures line { (number : ℕ) → line ≡ Some number →
+        IfOk result (λ text. string_bytes text ≡ bad_line name.now number (wrong what)) }
     ensures byte { line ≡ None → IfOk result (λ text. string_bytes text ≡ bad_at_byte name.now place (wrong what)) }
 {
     let why = wrong_with(what);

@@ -28,7 +28,8 @@ pub fn openings_of(alloc: Global, path: &DepotPath) -> Result<KeyRange, AllocErr
 /// The rows in that range are those of the openings that a depot has of the file, in the order of the clients' names
 /// (Command-Line Reference, "p4 opened", option -a), from the table of opened files alone.
 pub fn rows_are_openings(tables: &Tables)
-    ensures { (d : List Deed) (path : List ℕ) → path_of (printed path) ≡ Ok path → HasRows (rows_of tables.now) d table_ids.Working →
+    ensures { (d : List Deed) (path : List ℕ) → path_of (printed path) ≡ Ok path →
+        HasRows (rows_of tables.now) d table_ids.Working →
         filter (has_row (KeyRange.OpenedFiles (printed path))) (rows_of tables.now table_ids.Working) ≡ map (working_record d) (openings d path) }
 {
     let version = tables.version(TableId::Working);

@@ -91,7 +91,8 @@ impl<'a> Place<'a> {
 
     /// Passes the next row.
     fn pass(&mut self)
-        ensures place { (key : KeyValue) → StandsBy key self.old → is_next_below key (option_copied self.old.next) ≡ true → StandsBy key self.new }
+        ensures place { (key : KeyValue) → StandsBy key self.old →
+            is_next_below key (option_copied self.old.next) ≡ true → StandsBy key self.new }
         ensures version { self.new.version ≡ self.old.version }
     {
         self.passed = self.next;

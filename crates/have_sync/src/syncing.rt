@@ -345,7 +345,8 @@ impl<'a> WalkAct<'a, ShownFiles<'a>> for Syncing<'a> {
 
 /// The step, or its rows alone where it only shows.
 fn shown_alone(alloc: Global, shows: bool, step: Step) -> Step
-    ensures { (all : AllRows) (d e : List Deed) (m : ModelStep) → IsMade all d e m step → IsMade all d e (model.shows_alone shows m) result }
+    ensures { (all : AllRows) (d e : List Deed) (m : ModelStep) → IsMade all d e m step →
+        IsMade all d e (model.shows_alone shows m) result }
 {
     if !shows {
         return step;

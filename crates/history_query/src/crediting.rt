@@ -165,7 +165,8 @@ pub(crate) fn credits_of<'a>(
 /// The records of a file in its range are those of the depot (Command-Line Reference, "p4 integrated"), from the table
 /// of integration records alone.
 pub(crate) fn rows_are_records(tables: &Tables)
-    ensures { (d : List Deed) (caller : Asking) (asker : Asks) (path : List ℕ) → IsAsker d caller asker → HasRows (rows_of tables.now) d table_ids.Integed →
+    ensures { (d : List Deed) (caller : Asking) (asker : Asks) (path : List ℕ) → IsAsker d caller asker →
+        HasRows (rows_of tables.now) d table_ids.Integed →
         listed_in asker (filter (has_row (KeyRange.Integrations (printed path))) (rows_of tables.now table_ids.Integed)) ≡ records_in d caller path }
 {
     let version = tables.version(TableId::Integed);

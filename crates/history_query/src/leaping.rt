@@ -200,7 +200,8 @@ fn leap(
 
 /// The rows of revisions list the submitted files of a sound depot.
 fn rows_list_files(tables: &Tables)
-    ensures { (d : List Deed) → IsSound d → HasRows (rows_of tables.now) d table_ids.Rev → listed Submitted (rows_of tables.now table_ids.Rev) ≡ submitted d }
+    ensures { (d : List Deed) → IsSound d → HasRows (rows_of tables.now) d table_ids.Rev →
+        listed Submitted (rows_of tables.now table_ids.Rev) ≡ submitted d }
 {
     let version = tables.version(TableId::Rev);
     // the rows of a version are of its table, their keys rising

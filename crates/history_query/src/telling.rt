@@ -37,7 +37,8 @@ fn pair<'a>(row: &'a RevRecord, change: Option<&'a ChangeRecord>) -> Option<Told
 
 /// A revision with its change.
 fn with_change<'a>(tables: &'a Tables, row: Option<&'a RevRecord>) -> Option<Told<'a>>
-    ensures { (d : List Deed) → HasRows (rows_of tables.now) d table_ids.Change → option_map told_records result ≡ with_landed d (option_map seen (option_copied row.entry)) }
+    ensures { (d : List Deed) → HasRows (rows_of tables.now) d table_ids.Change →
+        option_map told_records result ≡ with_landed d (option_map seen (option_copied row.entry)) }
 {
     match row {
         None => None,
@@ -55,7 +56,8 @@ pub(crate) fn told_of<'a>(
     path: &DepotPath,
     row: Option<&'a RevRecord>,
 ) -> Option<Told<'a>>
-    ensures { (d : List Deed) (choice : Choice) → ChoiceReads (rows_of tables.now) d → option_map seen (option_copied row.entry) ≡ option_map numbered_record (numbered d path.now choice) →
+    ensures { (d : List Deed) (choice : Choice) → ChoiceReads (rows_of tables.now) d →
+        option_map seen (option_copied row.entry) ≡ option_map numbered_record (numbered d path.now choice) →
         option_map told_records result ≡ option_map revision_records (numbered d path.now choice) }
 {
     // the bytes of a path are one

@@ -100,7 +100,8 @@ fn spans_in(
 /// The rows of a file in its range tell which revisions of another one are credited to it (Helix Core database schema
 /// reference, "db.integed"): each record of a pair tells it of the file that it is kept for.
 fn rows_tell_credits(tables: &Tables)
-    ensures { (d : List Deed) (s t : List ℕ) (n : ℕ) → IsSound d → HasRows (rows_of tables.now) d table_ids.Integed → IsTrue (is_path s) → IsTrue (is_path t) →
+    ensures { (d : List Deed) (s t : List ℕ) (n : ℕ) → IsSound d → HasRows (rows_of tables.now) d table_ids.Integed →
+        IsTrue (is_path s) → IsTrue (is_path t) →
         list_any (is_within n) (span_of_rows (printed s) (filter (has_row (KeyRange.Integrations (printed t))) (rows_of tables.now table_ids.Integed))) ≡ credited d s t n }
 {
     let version = tables.version(TableId::Integed);

@@ -27,7 +27,8 @@ use std::alloc::{AllocError, Global};
 
 /// Whether a change is submitted, from the table of changes alone. It takes no memory.
 pub(crate) fn is_landed(tables: &Tables, change: u32) -> bool
-    ensures { (d : List Deed) → IsSound d → HasRows (rows_of tables.now) d table_ids.Change → result ≡ is_some (landing d change) }
+    ensures { (d : List Deed) → IsSound d → HasRows (rows_of tables.now) d table_ids.Change →
+        result ≡ is_some (landing d change) }
 {
     match change_of(tables, change) {
         Some(row) => row.status.as_bytes() == b"submitted".as_slice(),

@@ -108,7 +108,8 @@ pub fn read_group(
     // What is read is the text of a group.
     ensures found { IfOk result (λ x. IsGroup x.0 × (take x.1 bytes.now ≡ group_text number x.0) × (x.1 ≤ length bytes.now)) }
     // The text of a group is read, whatever follows it, unless there is no memory.
-    ensures only { (changes : List Change) (rest : List ℕ) → IsGroup changes → bytes.now ≡ group_text number changes ++ rest → IsAnswer result (changes, length (group_text number changes)) }
+    ensures only { (changes : List Change) (rest : List ℕ) → IsGroup changes →
+        bytes.now ≡ group_text number changes ++ rest → IsAnswer result (changes, length (group_text number changes)) }
     // It is short just where all of the bytes may still become a group.
     ensures short { IfShort result (λ place. GroupGoesOn number bytes.now × (place ≡ length bytes.now)) }
     ensures goes { GroupGoesOn number bytes.now → IsShort result (length bytes.now) }

@@ -207,8 +207,11 @@ impl GroupReader {
         ensures found { IfOk result (HasTaken self.old self.new) }
         // Where the text of a group of the next number stands behind an open mark, it is answered, unless there is no
         // memory.
-        ensures only { (changes : List Change) (rest : List ℕ) → IsGroup changes → self.old.left ≡ mark open_byte ++ (group_text self.old.number changes ++ rest) → IsAnswer result (Some changes) }
-        ensures closed { (byte : ℕ) (rest : List ℕ) → byte ≢ open_byte → self.old.left ≡ mark byte ++ rest → IsAnswer result None }
+        ensures only { (changes : List Change) (rest : List ℕ) → IsGroup changes →
+            self.old.left ≡ mark open_byte ++ (group_text self.old.number changes ++ rest) →
+            IsAnswer result (Some changes) }
+        ensures closed { (byte : ℕ) (rest : List ℕ) → byte ≢ open_byte → self.old.left ≡ mark byte ++ rest →
+            IsAnswer result None }
         ensures kept { OnErr result (IsLeft self.old self.new) }
         // Where the bytes are at fault, the records that were read are all that stand there whole.
         ensures records { IfErr result (λ fault. IfOfText fault (HasRecords self.old.number self.old.at self.old.left self.new.records self.new.reached)) }

@@ -30,7 +30,8 @@ pub fn commit_settled<D: Disk>(
     ensures any_moment { (was : Committed) (doubt : Doubtful) → Stands D.says journal.old was doubt →
         LeavesOnly D.says (disk_of journal.old) (disk_of journal.new)
         (λ c. HasWithOrWithout was doubt c ⊎ HasWithOrWithout was (group (group_of prepared)) c) }
-    ensures keeps { (older : List (List (List ℕ))) → KeepsOlder D.says journal.old older → KeepsOlder D.says journal.new older }
+    ensures keeps { (older : List (List (List ℕ))) → KeepsOlder D.says journal.old older →
+        KeepsOlder D.says journal.new older }
     ensures cause { HasCause (D.says.faults (disk_of journal.old)) (D.says.faults (disk_of journal.new)) result }
 {
     journal.settle()?;
@@ -84,7 +85,8 @@ pub fn commit_all<D: Disk>(
         LeavesOnly D.says (disk_of journal.old) (disk_of journal.new) (IsPrefix was batch.now landings.new) }
 
     // No commit fails unless the disk does.
-    ensures cause { (k : ℕ) → k < length landings.new → IsCaused (D.says.faults (disk_of journal.old)) (D.says.faults (disk_of journal.new)) (get_or landings.new k Landing.NoMemory) }
+    ensures cause { (k : ℕ) → k < length landings.new →
+        IsCaused (D.says.faults (disk_of journal.old)) (D.says.faults (disk_of journal.new)) (get_or landings.new k Landing.NoMemory) }
 {
     for (place, changes) in batch.iter().enumerate() {
         landings[place] = commit_changes(alloc, journal, changes.as_slice());

@@ -53,7 +53,8 @@ fn run_read<T: Taker, C: Clock, G: Gate>(
     requires no_places { order.old.items ≡ [] }
     ensures can { T.can_take taker.new }
     ensures commands { result ≡ length (commands_of session) }
-    ensures loaded { (since : ℕ) (start : List Deed) → AreWellFormed (commands_of session) → T.has_run taker.old since start [] →
+    ensures loaded { (since : ℕ) (start : List Deed) → AreWellFormed (commands_of session) →
+        T.has_run taker.old since start [] →
         IsLoaded (C.says.may_give clock.now) (T.has_run taker.new since) start session order.new.items }
     ensures stand { StandWithoutFaults (T.faults taker.old) (T.faults taker.new) (T.content_faults taker.old) (T.content_faults taker.new) [] order.new.items }
     ensures faults { AreCaused (T.faults taker.old) (T.faults taker.new) (T.content_faults taker.old) (T.content_faults taker.new) [] order.new.items }

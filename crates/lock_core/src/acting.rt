@@ -47,7 +47,8 @@ impl Party {
     /// Begins the next command, if there is one.
     fn begin(&mut self)
         requires { self.old.work ≡ None }
-        ensures { (order : List Commit) (q : ModelParty) → IsShown order self.old q → IsShown order self.new (moved needs_of order q.left q.work) }
+        ensures { (order : List Commit) (q : ModelParty) → IsShown order self.old q →
+            IsShown order self.new (moved needs_of order q.left q.work) }
     {
         let next = self.left.pop();
         drop(replace(&mut self.work, next));

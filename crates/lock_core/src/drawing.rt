@@ -67,7 +67,8 @@ impl LockCore {
     /// outside of the machine, in rising order, the one at the value's place, modulo how many they are; none where
     /// there is none. The others tell by party how much each has left to do there.
     pub fn drawn(&self, value: u32, others: &[u32]) -> Option<u32>
-        ensures { (start : List Deed) (s : State) → Shows start self.now s → length s.parties < 2 ^ 32 → result ≡ chosen (going_parties s others.now) value }
+        ensures { (start : List Deed) (s : State) → Shows start self.now s → length s.parties < 2 ^ 32 →
+            result ≡ chosen (going_parties s others.now) value }
     {
         let end = self.party_count();
         let count = self.count_below(others, end);

@@ -26,7 +26,8 @@ impl LockCore {
 
     /// The request whose commit a party has at hand.
     pub fn request(&self, party: u32) -> Option<&Request>
-        ensures { (start : List Deed) (s : State) (request : ModelRequest) → IsCommit start s self.now party request → option_copied result ≡ Some request }
+        ensures { (start : List Deed) (s : State) (request : ModelRequest) → IsCommit start s self.now party request →
+            option_copied result ≡ Some request }
     {
         self.request_of(party)
     }
@@ -34,7 +35,8 @@ impl LockCore {
     /// Takes from a party the commands that it hasn't begun, so that it ends with the one at hand.
     pub fn stop(&mut self, party: u32)
         ensures tables { self.new.tables ≡ self.old.tables }
-        ensures shows { (start : List Deed) (s : State) → Shows start self.old s → Shows start self.new (stopped s party) }
+        ensures shows { (start : List Deed) (s : State) → Shows start self.old s →
+            Shows start self.new (stopped s party) }
     {
         let at = party as usize;
         if at >= self.parties.len() {

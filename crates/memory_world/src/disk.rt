@@ -193,7 +193,8 @@ impl Disk for MemoryDisk {
     }
 
     fn read(&mut self, file: u32, at: u64, buffer: &mut [u8]) -> Result<usize, Failed>
-        ensures bytes { (files : Files) → is_read self.old files → IfOk result (λ n. Reads (files file) at buffer.old n buffer.new) }
+        ensures bytes { (files : Files) → is_read self.old files →
+            IfOk result (λ n. Reads (files file) at buffer.old n buffer.new) }
         ensures fits { IfOk result (λ n. n ≤ length buffer.old) }
         ensures same { Same (is_read self.old) (is_read self.new) }
         ensures crash { NoMore (may_be_left self.old) (may_be_left self.new) }

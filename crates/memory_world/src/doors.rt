@@ -34,7 +34,8 @@ fn place_of(doors: &[Door], name: &str) -> Option<usize>
 /// Takes the first door of the name away.
 fn take_door(doors: &mut Vec<Door>, name: &str) -> Option<Door>
     ensures found { result ≡ door_among doors.old.items name.now }
-    ensures others { (other : List ℕ) → other ≢ name.now → door_among doors.new.items other ≡ door_among doors.old.items other }
+    ensures others { (other : List ℕ) → other ≢ name.now →
+        door_among doors.new.items other ≡ door_among doors.old.items other }
 {
     match place_of(doors, name) {
         Some(at) => Some(doors.remove(at)),
@@ -76,8 +77,10 @@ impl Doors for MemoryDoors {
         ensures sink { IfOk result (λ pair. sink_given pair.1 ≡ doors_output self.old name.now) }
         ensures new_source { IfOk result (λ pair. source_faults pair.0 ≡ 0) }
         ensures new_sink { IfOk result (λ pair. sink_faults pair.1 ≡ 0) }
-        ensures other_inputs { (other : List ℕ) → other ≢ name.now → doors_input self.new other ≡ doors_input self.old other }
-        ensures other_outputs { (other : List ℕ) → other ≢ name.now → doors_output self.new other ≡ doors_output self.old other }
+        ensures other_inputs { (other : List ℕ) → other ≢ name.now →
+            doors_input self.new other ≡ doors_input self.old other }
+        ensures other_outputs { (other : List ℕ) → other ≢ name.now →
+            doors_output self.new other ≡ doors_output self.old other }
         ensures cause { HasCause (doors_faults self.old) (doors_faults self.new) result }
         ensures exactly { is_err result ≡ (fails_next (doors_calls self.old) || is_gone self.old name.now) }
         ensures calls { doors_calls self.new ≡ one_more (doors_calls self.old) }

@@ -70,7 +70,8 @@ pub fn write_file(
 
 /// Cuts a file to a length.
 pub fn cut_file(files: &mut Vec<Vec<u8>>, file: u32, length: u64)
-    ensures { (f : ℕ) → contents files.new.items f ≡ put file (take length (contents files.old.items file)) (contents files.old.items) f }
+    ensures { (f : ℕ) →
+        contents files.new.items f ≡ put file (take length (contents files.old.items file)) (contents files.old.items) f }
 {
     if (file as usize) < files.len() {
         let bytes = &mut files[file as usize];

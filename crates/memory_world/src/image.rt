@@ -97,7 +97,8 @@ pub(crate) fn fill_all(files: &mut Vec<Vec<u8>>, ranges: &[OpenRange], pick: &[u
 // Puts bytes of `pick`, and then 0, into the open places of a file, and answers what is left.
 fn fill<'p>(bytes: &mut [u8], number: usize, ranges: &[OpenRange], pick: &'p [u8]) -> &'p [u8]
     ensures kept { (k : ℕ) → is_in ranges.now number k ≡ false → get_or bytes.new k 0 ≡ get_or bytes.old k 0 }
-    ensures picked { (k : ℕ) → k < length bytes.old → is_in ranges.now number k ≡ true → get_or bytes.new k 0 ≡ get_or pick.now (open_below (is_in ranges.now number) k) 0 }
+    ensures picked { (k : ℕ) → k < length bytes.old → is_in ranges.now number k ≡ true →
+        get_or bytes.new k 0 ≡ get_or pick.now (open_below (is_in ranges.now number) k) 0 }
     ensures rest { result.now ≡ drop (open_below (is_in ranges.now number) (length bytes.old)) pick.now }
 {
     let mut used = 0;

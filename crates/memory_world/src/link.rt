@@ -156,9 +156,11 @@ impl Link for MemoryLink {
 
     fn fetch(&mut self, generation: u32, at: u64, buffer: &mut [u8]) -> Result<Fetched, Failed>
         requires { 0 < length buffer.old }
-        ensures answer { (now : List (List ℕ)) → now ≡ link_journal self.new → IfOk result (λ fetched. (earlier : List (List ℕ)) × IsEarlier earlier now × Answers earlier generation at fetched buffer.new) }
+        ensures answer { (now : List (List ℕ)) → now ≡ link_journal self.new →
+            IfOk result (λ fetched. (earlier : List (List ℕ)) × IsEarlier earlier now × Answers earlier generation at fetched buffer.new) }
         ensures fits { IfOk result (λ fetched. Fits fetched (length buffer.old)) }
-        ensures grows { (before : List (List ℕ)) → before ≡ link_journal self.old → (now : List (List ℕ)) × (now ≡ link_journal self.new) × IsEarlier before now }
+        ensures grows { (before : List (List ℕ)) → before ≡ link_journal self.old →
+            (now : List (List ℕ)) × (now ≡ link_journal self.new) × IsEarlier before now }
         ensures keeps { link_journal self.new ≡ link_journal self.old }
         ensures cause { HasCause (link_faults self.old) (link_faults self.new) result }
         ensures newest { IfOk result (λ fetched. Answers (link_journal self.old) generation at fetched buffer.new) }

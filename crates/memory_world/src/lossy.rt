@@ -68,9 +68,11 @@ impl Link for LossyLink {
 
     fn fetch(&mut self, generation: u32, at: u64, buffer: &mut [u8]) -> Result<Fetched, Failed>
         requires { 0 < length buffer.old }
-        ensures answer { (now : List (List ℕ)) → now ≡ lossy_journal self.new → IfOk result (λ fetched. (earlier : List (List ℕ)) × IsEarlier earlier now × Answers earlier generation at fetched buffer.new) }
+        ensures answer { (now : List (List ℕ)) → now ≡ lossy_journal self.new →
+            IfOk result (λ fetched. (earlier : List (List ℕ)) × IsEarlier earlier now × Answers earlier generation at fetched buffer.new) }
         ensures fits { IfOk result (λ fetched. Fits fetched (length buffer.old)) }
-        ensures grows { (before : List (List ℕ)) → before ≡ lossy_journal self.old → (now : List (List ℕ)) × (now ≡ lossy_journal self.new) × IsEarlier before now }
+        ensures grows { (before : List (List ℕ)) → before ≡ lossy_journal self.old →
+            (now : List (List ℕ)) × (now ≡ lossy_journal self.new) × IsEarlier before now }
         ensures keeps { lossy_journal self.new ≡ lossy_journal self.old }
         ensures cause { HasCause (lossy_faults self.old) (lossy_faults self.new) result }
         ensures exactly { is_err result ≡ (fails_next (lossy_calls self.old) || begins_with_fail (losses_left self.old)) }

@@ -102,7 +102,8 @@ fn opened_below(
 /// Where the texts are apart, the rows of a sound depot tell so the files that any client has opened, in the order of
 /// their paths.
 fn rows_tell_files(tables: &Tables)
-    ensures { (d : List Deed) (client : List ℕ) (beginnings : List (List ℕ)) → IsSound d → HasRows (rows_of tables.now) d table_ids.Working → AreApart beginnings →
+    ensures { (d : List Deed) (client : List ℕ) (beginnings : List (List ℕ)) → IsSound d →
+        HasRows (rows_of tables.now) d table_ids.Working → AreApart beginnings →
         paths_in_turn (Listing.OpenedBy client) (rows_of tables.now table_ids.Working) beginnings ≡ filter (has_one beginnings) (opened_anywhere d) }
 {
     let version = tables.version(TableId::Working);

@@ -117,7 +117,8 @@ fn headed_below<'t>(
 
 /// The last row of each file, of those that begin with one of some texts, is that of its newest revision.
 fn last_rows_are_heads(tables: &Tables, listing: &Listing)
-    ensures { (beginnings : List (List ℕ)) → All (IsHead (rows_of tables.now (listing_table listing.now))) (heads_in_turn listing.now (rows_of tables.now (listing_table listing.now)) beginnings) }
+    ensures { (beginnings : List (List ℕ)) →
+        All (IsHead (rows_of tables.now (listing_table listing.now))) (heads_in_turn listing.now (rows_of tables.now (listing_table listing.now)) beginnings) }
 {
     let version = tables.version(listing.table());
     // the rows of a version are of its table, their keys rising

@@ -26,7 +26,8 @@ use std::alloc::{AllocError, Global};
 
 /// The rows of a sound depot tell the resolves of an opened file, in the order of the files that they come from.
 pub fn rows_tell_resolves(tables: &Tables)
-    ensures { (d : List Deed) (o : Opening) → IsSound d → HasRows (rows_of tables.now) d table_ids.Resolve → opened d o.client o.path ≡ Some o →
+    ensures { (d : List Deed) (o : Opening) → IsSound d → HasRows (rows_of tables.now) d table_ids.Resolve →
+        opened d o.client o.path ≡ Some o →
         filter (has_row (ranges.FileResolves o.client (printed o.path))) (rows_of tables.now table_ids.Resolve) ≡ map resolve_record (resolves_of d o) }
 {
     let version = tables.version(TableId::Resolve);

@@ -172,11 +172,14 @@ impl<E: Entry> Orders<E> {
     pub fn append(&self, seat: &mut OrderSeat<E>, entry: E) -> u64
         requires run { seat.old.run ≡ self.now }
         requires room { length seat.old.list < 2 ^ 64 - 1 }
-        requires checked { (lane : ℕ) → IsTrue (has_lane (E.lanes entry) lane) → IsTrue (is_among lane seat.old.checked) }
+        requires checked { (lane : ℕ) → IsTrue (has_lane (E.lanes entry) lane) →
+            IsTrue (is_among lane seat.old.checked) }
         ensures place { result ≡ length seat.old.list + 1 }
         ensures appended { seat.new ≡ record seat.old { list = seat.old.list ++ entry ∷ []; checked = [] } }
-        ensures touched { (lane : ℕ) → IsTrue (has_lane (E.lanes entry) lane) → last_touch E.lanes lane seat.new.list ≡ result }
-        ensures untouched { (lane : ℕ) → IsFalse (has_lane (E.lanes entry) lane) → last_touch E.lanes lane seat.new.list ≡ last_touch E.lanes lane seat.old.list }
+        ensures touched { (lane : ℕ) → IsTrue (has_lane (E.lanes entry) lane) →
+            last_touch E.lanes lane seat.new.list ≡ result }
+        ensures untouched { (lane : ℕ) → IsFalse (has_lane (E.lanes entry) lane) →
+            last_touch E.lanes lane seat.new.list ≡ last_touch E.lanes lane seat.old.list }
     {
         let place = seat.places + 1;
         self.table

@@ -101,7 +101,8 @@ fn end_untaken<D, S, K: Sink>(
     ensures parties { result.parties ≡ [] }
     ensures sources { result.sources ≡ [] }
     ensures cause { fault ≡ faults.DiskFault → result.cause ≡ Cause.Fault }
-    ensures line { fault ≡ faults.DiskFault → OutGot (K.says.given out.old) (K.says.given out.new) (K.says.faults out.old) (K.says.faults out.new) (cause_line Cause.Fault) }
+    ensures line { fault ≡ faults.DiskFault →
+        OutGot (K.says.given out.old) (K.says.given out.new) (K.says.faults out.old) (K.says.faults out.new) (cause_line Cause.Fault) }
     ensures memory { fault ≡ faults.Memory → result.cause ≡ Cause.Memory }
     ensures unrun { fault ≡ faults.Memory → IsUnrun result }
     ensures status { result.status ≡ status_of result.cause }

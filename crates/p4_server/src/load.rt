@@ -165,7 +165,8 @@ fn load_depot<D: Disk, C: Clock, G: Gate, F: Following>(
     depot: SerialDepot<D>,
 ) -> Loaded<D>
     requires can { CanTake D.says depot }
-    requires began { (past : Past) (start : List Deed) (c : Chronicle) → F.masters past start c → CanBeFollowed D.says past start [] depot }
+    requires began { (past : Past) (start : List Deed) (c : Chronicle) → F.masters past start c →
+        CanBeFollowed D.says past start [] depot }
     ensures unrun { OnErr result.run (result.depot ≡ depot) }
     ensures read { IfOk result.run (λ run. IsAskedBy (script_of seed count) (session_of seed count) run.end) }
     ensures commands { IfOk result.run (λ run. run.commands ≡ length (commands_of (session_of seed count))) }

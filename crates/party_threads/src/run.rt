@@ -151,20 +151,28 @@ pub fn run_on_threads<
     ensures unrun { IfErr result (λ kept. kept ≡ depot) }
 
     // From each depot from which the depot in files begins, where the commands are well-formed.
-    ensures served { (since : ℕ) (start : List Deed) → All (λ session. AreWellFormed (commands_of session)) sessions.items → HasRun D.says depot since start [] →
+    ensures served { (since : ℕ) (start : List Deed) →
+        All (λ session. AreWellFormed (commands_of session)) sessions.items → HasRun D.says depot since start [] →
         IfOk result (λ ran. AreServed (C.says.may_give clock.now) sessions.items replicas.items start ran.runs.items (map K.says.given sinks.items) (map K.says.given ran.sinks.items) ran.order.items) }
-    ensures replicas { (since : ℕ) (start : List Deed) → All (λ session. AreWellFormed (commands_of session)) sessions.items → All (λ script. AreWellFormed (replica_commands script)) replicas.items → HasRun D.says depot since start [] →
+    ensures replicas { (since : ℕ) (start : List Deed) →
+        All (λ session. AreWellFormed (commands_of session)) sessions.items →
+        All (λ script. AreWellFormed (replica_commands script)) replicas.items → HasRun D.says depot since start [] →
         IfOk result (λ ran. AreReplicasServed D.says (C.says.may_give clock.now) sessions.items replicas.items since start ran.order.items (λ party. None) ran.runs.items ran.lost (λ failures. HaveRisenBy failures (D.says.faults (disk_of depot.journal)) (D.says.faults (disk_of ran.depot.journal)) (D.says.faults (archive_disk_of depot.archive)) (D.says.faults (archive_disk_of ran.depot.archive))) (map K.says.given sinks.items) (map K.says.given ran.sinks.items)) }
     // Along a depot that they follow the replies of replicas are, but for those to `pull`, those of the depot after its
     // first changes, as many as the last `pull` told, cut to their filters; and each `pull` that tells a position took
     // of the journal as it was then.
-    ensures told { (past : Past) (since : ℕ) (start : List Deed) (c : Chronicle) → All (λ session. AreWellFormed (commands_of session)) sessions.items → All (λ script. AreWellFormed (replica_commands script)) replicas.items →
+    ensures told { (past : Past) (since : ℕ) (start : List Deed) (c : Chronicle) →
+        All (λ session. AreWellFormed (commands_of session)) sessions.items →
+        All (λ script. AreWellFormed (replica_commands script)) replicas.items →
         HasRun D.says depot since start [] → IsMaster D.says past start [] depot c →
         IfOk result (λ ran. AreReplicasTold past start sessions.items replicas.items (C.says.may_give clock.now) ran.order.items (λ party. None) ran.runs.items (map K.says.given sinks.items) (map K.says.given ran.sinks.items)) }
     // From a depot that they follow on, the depot at the end is one that they follow after the places.
-    ensures master { (past : Past) (since : ℕ) (start : List Deed) (c : Chronicle) → All (λ session. AreWellFormed (commands_of session)) sessions.items → HasRun D.says depot since start [] → IsMaster D.says past start [] depot c →
+    ensures master { (past : Past) (since : ℕ) (start : List Deed) (c : Chronicle) →
+        All (λ session. AreWellFormed (commands_of session)) sessions.items → HasRun D.says depot since start [] →
+        IsMaster D.says past start [] depot c →
         IfOk result (λ ran. CanBeFollowed D.says past start (map (placed sessions.items) ran.order.items) ran.depot) }
-    ensures ran { (since : ℕ) (start : List Deed) → All (λ session. AreWellFormed (commands_of session)) sessions.items → HasRun D.says depot since start [] →
+    ensures ran { (since : ℕ) (start : List Deed) →
+        All (λ session. AreWellFormed (commands_of session)) sessions.items → HasRun D.says depot since start [] →
         IfOk result (λ ran. HasRun D.says ran.depot since start (map (placed sessions.items) ran.order.items)) }
 
     ensures ends { IfOk result (λ ran. AreEnds K.says sessions.items replicas.items ran.runs.items sinks.items ran.sinks.items) }

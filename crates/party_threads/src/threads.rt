@@ -237,7 +237,8 @@ pub(crate) fn run_named<
     requires images { (files : Files) → N.images files ↔ D.says.may_leave (archive_disk_of depot.archive) files }
     requires can { CanTake D.says depot }
     requires begins { (since : ℕ) (start : List Deed) → N.begins since start → HasRun D.says depot since start [] }
-    requires masters { (past : Past) (start : List Deed) (c : Chronicle) → N.masters past start c → IsMaster D.says past start [] depot c }
+    requires masters { (past : Past) (start : List Deed) (c : Chronicle) → N.masters past start c →
+        IsMaster D.says past start [] depot c }
     requires faults { N.faults ≡ D.says.faults (disk_of depot.journal) }
     requires content_faults { N.content_faults ≡ D.says.faults (archive_disk_of depot.archive) }
     requires as_many { length sinks.items ≡ length brought.requests.items }

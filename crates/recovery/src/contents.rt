@@ -47,8 +47,11 @@ fn check_content<D: Disk>(
 ) -> Result<(), OpenFault>
     requires room { 0 < length piece.old }
     requires small { revision.now.at + revision.now.length < 2 ^ 63 }
-    ensures content { (files : Files) → D.says.seen disk.old files → revision.now.at + revision.now.length ≤ length (files 0) → OnOk result (HasDigested (files 0) revision.now) }
-    ensures damaged { (files : Files) → D.says.seen disk.old files → revision.now.at + revision.now.length ≤ length (files 0) → IfDamaged result (λ place. (place ≡ revision.now.at) × (revision.now.digest ≢ digest (bytes_at (files 0) revision.now))) }
+    ensures content { (files : Files) → D.says.seen disk.old files →
+        revision.now.at + revision.now.length ≤ length (files 0) → OnOk result (HasDigested (files 0) revision.now) }
+    ensures damaged { (files : Files) → D.says.seen disk.old files →
+        revision.now.at + revision.now.length ≤ length (files 0) →
+        IfDamaged result (λ place. (place ≡ revision.now.at) × (revision.now.digest ≢ digest (bytes_at (files 0) revision.now))) }
     ensures fault { IfErr result IsOfArchive }
     ensures reads { OnlyReads D.says disk.old disk.new }
     ensures unfailed { UnlessFault result (D.says.faults disk.new ≡ D.says.faults disk.old) }
@@ -77,8 +80,10 @@ fn check_row<D: Disk>(
     requires room { 0 < length piece.old }
     requires small { limit < 2 ^ 63 }
     ensures end { IfOk result (λ end. (end ≡ spot_end row.now) × (end ≤ limit)) }
-    ensures whole { (files : Files) → D.says.seen disk.old files → limit ≡ length (files 0) → IfOk result (λ end. IsWhole (files 0) row.now) }
-    ensures damaged { (files : Files) → D.says.seen disk.old files → limit ≡ length (files 0) → IfDamaged result (IsBadAt (files 0) row.now) }
+    ensures whole { (files : Files) → D.says.seen disk.old files → limit ≡ length (files 0) →
+        IfOk result (λ end. IsWhole (files 0) row.now) }
+    ensures damaged { (files : Files) → D.says.seen disk.old files → limit ≡ length (files 0) →
+        IfDamaged result (IsBadAt (files 0) row.now) }
     ensures fault { IfErr result IsOfArchive }
     ensures reads { OnlyReads D.says disk.old disk.new }
     ensures unfailed { UnlessFault result (D.says.faults disk.new ≡ D.says.faults disk.old) }
@@ -108,8 +113,10 @@ fn check_rows<D: Disk>(
     requires room { 0 < length piece.old }
     requires small { limit < 2 ^ 63 }
     ensures end { IfOk result (λ end. (end ≡ spots_end (rows_of tables.now Rev)) × (end ≤ limit)) }
-    ensures whole { (files : Files) → D.says.seen disk.old files → limit ≡ length (files 0) → IfOk result (λ end. AreWhole (files 0) (rows_of tables.now Rev)) }
-    ensures damaged { (files : Files) → D.says.seen disk.old files → limit ≡ length (files 0) → IfDamaged result (IsSpotDamage (files 0) (rows_of tables.now Rev)) }
+    ensures whole { (files : Files) → D.says.seen disk.old files → limit ≡ length (files 0) →
+        IfOk result (λ end. AreWhole (files 0) (rows_of tables.now Rev)) }
+    ensures damaged { (files : Files) → D.says.seen disk.old files → limit ≡ length (files 0) →
+        IfDamaged result (IsSpotDamage (files 0) (rows_of tables.now Rev)) }
     ensures fault { IfErr result IsOfArchive }
     ensures reads { OnlyReads D.says disk.old disk.new }
     ensures unfailed { UnlessFault result (D.says.faults disk.new ≡ D.says.faults disk.old) }
@@ -131,8 +138,10 @@ pub(crate) fn read_contents<D: Disk>(
     ensures end { IfOk result (λ end. end ≡ spots_end (rows_of tables.now Rev)) }
     ensures within { (files : Files) → D.says.seen disk.old files → IfOk result (λ end. end ≤ length (files 0)) }
     ensures small { IfOk result (λ end. end < 2 ^ 63) }
-    ensures whole { (files : Files) → D.says.seen disk.old files → IfOk result (λ end. AreWhole (files 0) (rows_of tables.now Rev)) }
-    ensures damaged { (files : Files) → D.says.seen disk.old files → IfDamaged result (IsSpotDamage (files 0) (rows_of tables.now Rev)) }
+    ensures whole { (files : Files) → D.says.seen disk.old files →
+        IfOk result (λ end. AreWhole (files 0) (rows_of tables.now Rev)) }
+    ensures damaged { (files : Files) → D.says.seen disk.old files →
+        IfDamaged result (IsSpotDamage (files 0) (rows_of tables.now Rev)) }
     ensures fault { IfErr result IsOfArchive }
     ensures reads { OnlyReads D.says disk.old disk.new }
     ensures unfailed { UnlessFault result (D.says.faults disk.new ≡ D.says.faults disk.old) }

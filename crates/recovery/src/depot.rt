@@ -33,10 +33,13 @@ pub(crate) struct Found {
 /// Reads the root, and the checkpoint and the journal of its generation.
 pub(crate) fn read_rows<D: Disk>(alloc: Global, disk: &mut D) -> Result<Found, OpenFault>
     ensures found { IfOk result (λ found. HasFound (D.says.seen disk.old) found) }
-    ensures only { (files : Files) (rows : AllRows) → D.says.seen disk.old files → Hold files rows → IsReadOrSaysNothing result (λ found. (table : TableId) → rows_of found.tables table ≡ rows table) }
-    ensures damaged { (files contents : Files) → D.says.seen disk.old files → IfErr result (Tells (IsDamage files contents)) }
+    ensures only { (files : Files) (rows : AllRows) → D.says.seen disk.old files → Hold files rows →
+        IsReadOrSaysNothing result (λ found. (table : TableId) → rows_of found.tables table ≡ rows table) }
+    ensures damaged { (files contents : Files) → D.says.seen disk.old files →
+        IfErr result (Tells (IsDamage files contents)) }
     ensures unmade { (files : Files) → D.says.seen disk.old files → result ≡ Err Unmade → length (files 0) ≡ 0 }
-    ensures exactly { (files : Files) → D.says.seen disk.old files → length (files 0) ≡ 0 → IsUnmadeOrSaysNothing result }
+    ensures exactly { (files : Files) → D.says.seen disk.old files → length (files 0) ≡ 0 →
+        IsUnmadeOrSaysNothing result }
     ensures reads { OnlyReads D.says disk.old disk.new }
     ensures unfailed { UnlessFault result (D.says.faults disk.new ≡ D.says.faults disk.old) }
     ensures cause { IsCause (D.says.faults disk.old) (D.says.faults disk.new) (result ≡ Err DiskFault) }

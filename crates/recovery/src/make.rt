@@ -39,11 +39,14 @@ pub fn make_files<D: Disk>(journal: &mut D, archive: &mut D) -> Result<(), MakeF
     ensures archive_reads { Same (D.says.seen archive.old) (D.says.seen archive.new) ⊎ ((result ≡ Err DiskFault) × HasRisen (D.says.faults archive.old) (D.says.faults archive.new)) }
     ensures unmade { (files : Files) → D.says.seen journal.old files → OnOk result (length (files 0) ≡ 0) }
     ensures there { (files : Files) → D.says.seen journal.old files → result ≡ Err Made → length (files 0) ≢ 0 }
-    ensures exactly { (files : Files) → D.says.seen journal.old files → length (files 0) ≢ 0 → (result ≡ Err Made) ⊎ (result ≡ Err DiskFault) }
+    ensures exactly { (files : Files) → D.says.seen journal.old files → length (files 0) ≢ 0 →
+        (result ≡ Err Made) ⊎ (result ≡ Err DiskFault) }
     // Whatever is answered, where the root isn't empty nothing is written.
-    ensures kept { (files : Files) → D.says.seen journal.old files → length (files 0) ≢ 0 → OnlyReads D.says journal.old journal.new × (archive.new ≡ archive.old) }
+    ensures kept { (files : Files) → D.says.seen journal.old files → length (files 0) ≢ 0 →
+        OnlyReads D.says journal.old journal.new × (archive.new ≡ archive.old) }
     ensures untouched { result ≡ Err Made → OnlyReads D.says journal.old journal.new × (archive.new ≡ archive.old) }
-    ensures unfailed { result ≢ Err DiskFault → (D.says.faults journal.new ≡ D.says.faults journal.old) × (D.says.faults archive.new ≡ D.says.faults archive.old) }
+    ensures unfailed { result ≢ Err DiskFault →
+        (D.says.faults journal.new ≡ D.says.faults journal.old) × (D.says.faults archive.new ≡ D.says.faults archive.old) }
     ensures cause { AreCauses (D.says.faults journal.old) (D.says.faults journal.new) (D.says.faults archive.old) (D.says.faults archive.new) (result ≡ Err DiskFault) }
 {
     let length = journal.length(ROOT)?;

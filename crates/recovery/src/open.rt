@@ -55,14 +55,20 @@ pub struct NotOpened<D: Disk> {
 fn read_depot<D: Disk>(alloc: Global, journal: &mut D, archive: &mut D) -> Result<Found, OpenFault>
     ensures found { IfOk result (HasFound (D.says.seen journal.old)) }
     ensures end { IfOk result (λ found. found.tables.archive_end ≡ spots_end (rows_of found.tables Rev)) }
-    ensures within { (contents : Files) → D.says.seen archive.old contents → IfOk result (λ found. found.tables.archive_end ≤ length (contents 0)) }
-    ensures contents { (contents : Files) → D.says.seen archive.old contents → IfOk result (λ found. AreWhole (contents 0) (rows_of found.tables Rev)) }
+    ensures within { (contents : Files) → D.says.seen archive.old contents →
+        IfOk result (λ found. found.tables.archive_end ≤ length (contents 0)) }
+    ensures contents { (contents : Files) → D.says.seen archive.old contents →
+        IfOk result (λ found. AreWhole (contents 0) (rows_of found.tables Rev)) }
     ensures suit { IfOk result (λ found. SuitFiles found.generation (rows_of found.tables)) }
     ensures synced { IfOk result (λ found. HasSynced D.says journal.old journal.new × HasSynced D.says archive.old archive.new) }
-    ensures only { (files contents : Files) (rows : AllRows) → D.says.seen journal.old files → D.says.seen archive.old contents → HoldWhole files contents rows → IsReadOrSaysNothing result (λ found. (table : TableId) → rows_of found.tables table ≡ rows table) }
-    ensures damaged { (files contents : Files) → D.says.seen journal.old files → D.says.seen archive.old contents → IfErr result (Tells (IsDamage files contents)) }
+    ensures only { (files contents : Files) (rows : AllRows) → D.says.seen journal.old files →
+        D.says.seen archive.old contents → HoldWhole files contents rows →
+        IsReadOrSaysNothing result (λ found. (table : TableId) → rows_of found.tables table ≡ rows table) }
+    ensures damaged { (files contents : Files) → D.says.seen journal.old files → D.says.seen archive.old contents →
+        IfErr result (Tells (IsDamage files contents)) }
     ensures unmade { (files : Files) → D.says.seen journal.old files → result ≡ Err Unmade → length (files 0) ≡ 0 }
-    ensures exactly { (files : Files) → D.says.seen journal.old files → length (files 0) ≡ 0 → IsUnmadeOrSaysNothing result }
+    ensures exactly { (files : Files) → D.says.seen journal.old files → length (files 0) ≡ 0 →
+        IsUnmadeOrSaysNothing result }
     ensures read { IfErr result (λ fault. fault ≢ DiskFault → HasSynced D.says journal.old journal.new × HasSynced D.says archive.old archive.new) }
     ensures journal_looks { LooksOnly D.says journal.old journal.new }
     ensures archive_looks { LooksOnly D.says archive.old archive.new }
@@ -89,20 +95,27 @@ pub fn open_files<D: Disk>(alloc: Global, journal: D, archive: D) -> Result<Open
     // What is committed has the rows of the tables.
     ensures open { IfOk result (λ opened. (was : Committed) × IsOpen D.says was opened) }
     // These are the rows that the files hold.
-    ensures held { (files : Files) → D.says.seen journal files → IfOk result (λ opened. Hold files (rows_of opened.tables)) }
-    ensures within { (contents : Files) → D.says.seen archive contents → IfOk result (λ opened. opened.tables.archive_end ≤ length (contents 0)) }
+    ensures held { (files : Files) → D.says.seen journal files →
+        IfOk result (λ opened. Hold files (rows_of opened.tables)) }
+    ensures within { (contents : Files) → D.says.seen archive contents →
+        IfOk result (λ opened. opened.tables.archive_end ≤ length (contents 0)) }
     // The archive has the content of each live revision.
-    ensures contents { (contents : Files) → D.says.seen archive contents → IfOk result (λ opened. AreWhole (contents 0) (rows_of opened.tables Rev)) }
+    ensures contents { (contents : Files) → D.says.seen archive contents →
+        IfOk result (λ opened. AreWhole (contents 0) (rows_of opened.tables Rev)) }
     // The rows keep their rules, deleted revisions having no place, and tell the generation of the files.
     ensures suit { IfOk result (λ opened. SuitFiles (generation_of_journal opened.journal) (rows_of opened.tables)) }
     // So the files hold them whole.
-    ensures whole { (files contents : Files) → D.says.seen journal files → D.says.seen archive contents → IfOk result (λ opened. HoldWhole files contents (rows_of opened.tables)) }
+    ensures whole { (files contents : Files) → D.says.seen journal files → D.says.seen archive contents →
+        IfOk result (λ opened. HoldWhole files contents (rows_of opened.tables)) }
     // Files that hold rows that suit them, and their contents, are opened, and so those are that stand for a depot: the
     // rows then stand for it.
-    ensures opens { (files contents : Files) (rows : AllRows) → D.says.seen journal files → D.says.seen archive contents → HoldWhole files contents rows → OpensOrSaysNothing result }
-    ensures stands { (files contents : Files) (d : List Deed) → D.says.seen journal files → D.says.seen archive contents → StandFor d files contents →
+    ensures opens { (files contents : Files) (rows : AllRows) → D.says.seen journal files →
+        D.says.seen archive contents → HoldWhole files contents rows → OpensOrSaysNothing result }
+    ensures stands { (files contents : Files) (d : List Deed) → D.says.seen journal files →
+        D.says.seen archive contents → StandFor d files contents →
         OpensOrSaysNothing result × IfOk result (λ opened. Stand (rows_of opened.tables) d) }
-    ensures damaged { (files contents : Files) → D.says.seen journal files → D.says.seen archive contents → IfErr result (λ found. Tells (IsDamage files contents) found.fault) }
+    ensures damaged { (files contents : Files) → D.says.seen journal files → D.says.seen archive contents →
+        IfErr result (λ found. Tells (IsDamage files contents) found.fault) }
     ensures unmade { (files : Files) → D.says.seen journal files → IsUnmade result → length (files 0) ≡ 0 }
     ensures exactly { (files : Files) → D.says.seen journal files → length (files 0) ≡ 0 → UnmadeOrSaysNothing result }
     // Files that aren't opened, where no disk failed, read as before, and a crash leaves what they read.
@@ -115,7 +128,8 @@ pub fn open_files<D: Disk>(alloc: Global, journal: D, archive: D) -> Result<Open
     ensures journal_told { StillTells (D.says.seen journal) (D.says.seen (journal_disk result)) }
     ensures archive_told { StillTells (D.says.seen archive) (D.says.seen (archive_disk result)) }
     // Where no fault of a disk is answered the counts of both disks stand.
-    ensures unfailed { (IsDiskFault result → ⊥) → (D.says.faults (journal_disk result) ≡ D.says.faults journal) × (D.says.faults (archive_disk result) ≡ D.says.faults archive) }
+    ensures unfailed { (IsDiskFault result → ⊥) →
+        (D.says.faults (journal_disk result) ≡ D.says.faults journal) × (D.says.faults (archive_disk result) ≡ D.says.faults archive) }
     ensures cause { AreCauses (D.says.faults journal) (D.says.faults (journal_disk result)) (D.says.faults archive) (D.says.faults (archive_disk result)) (IsDiskFault result) }
 {
     let mut journal = journal;

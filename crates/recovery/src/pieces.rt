@@ -60,7 +60,8 @@ impl FileGroups {
     ) -> Result<FileGroups, OpenFault>
         requires short { length front ≤ 5 }
         requires number { number < 2 ^ 63 }
-        ensures text { (files : Files) → D.says.seen disk.old files → IfOk result (λ groups. (text_left groups files ≡ front ++ files file) × KnowsEnd groups files) }
+        ensures text { (files : Files) → D.says.seen disk.old files →
+            IfOk result (λ groups. (text_left groups files ≡ front ++ files file) × KnowsEnd groups files) }
         ensures at { IfOk result (λ groups. (groups.file ≡ file) × (groups.front ≡ length front) × (groups.reader.at ≡ 0) × (groups.reader.number ≡ number)) }
         ensures fault { IfErr result SaysNothing }
         ensures reads { OnlyReads D.says disk.old disk.new }
@@ -97,7 +98,8 @@ impl FileGroups {
     ) -> Result<(), OpenFault>
         requires room { 0 < length piece.old }
         requires before_end { self.old.read < self.old.length }
-        ensures text { (files : Files) → D.says.seen disk.old files → KnowsEnd self.old files → OnOk result ((text_left self.new files ≡ text_left self.old files) × KnowsEnd self.new files) }
+        ensures text { (files : Files) → D.says.seen disk.old files → KnowsEnd self.old files →
+            OnOk result ((text_left self.new files ≡ text_left self.old files) × KnowsEnd self.new files) }
         ensures goes_on { OnOk result (self.new.length - self.new.read < self.old.length - self.old.read) }
         ensures reader { (self.new.file ≡ self.old.file) × (self.new.front ≡ self.old.front) × (self.new.reader.at ≡ self.old.reader.at) × (self.new.reader.number ≡ self.old.reader.number) }
         ensures fault { IfErr result SaysNothing }
@@ -126,7 +128,8 @@ impl FileGroups {
     ) -> Result<(), OpenFault>
         requires room { 0 < length piece.old }
         requires before_end { self.old.read < self.old.length }
-        ensures text { (files : Files) → D.says.seen disk.old files → KnowsEnd self.old files → OnOk result ((text_left self.new files ≡ text_left self.old files) × KnowsEnd self.new files) }
+        ensures text { (files : Files) → D.says.seen disk.old files → KnowsEnd self.old files →
+            OnOk result ((text_left self.new files ≡ text_left self.old files) × KnowsEnd self.new files) }
         ensures goes_on { OnOk result (self.new.length - self.new.read < self.old.length - self.old.read) }
         ensures enough { OnOk result ((self.old.read + wanted ≤ self.new.read) ⊎ (self.new.read ≡ self.new.length)) }
         ensures reader { (self.new.file ≡ self.old.file) × (self.new.front ≡ self.old.front) × (self.new.reader.at ≡ self.old.reader.at) × (self.new.reader.number ≡ self.old.reader.number) }
@@ -191,10 +194,12 @@ impl FileGroups {
         piece: &mut [u8],
     ) -> Result<GroupRead, OpenFault>
         requires room { 0 < length piece.old }
-        ensures text { (files : Files) → D.says.seen disk.old files → KnowsEnd self.old files → IfOk result (λ read. IfOk read (λ found. KnowsEnd self.new files × IsFirst self.old.reader.number (text_left self.old files) (text_left self.new files) found)) }
+        ensures text { (files : Files) → D.says.seen disk.old files → KnowsEnd self.old files →
+            IfOk result (λ read. IfOk read (λ found. KnowsEnd self.new files × IsFirst self.old.reader.number (text_left self.old files) (text_left self.new files) found)) }
         ensures come { IfOk result (λ read. IfOk read (HasCome self.old self.new)) }
         ensures file { (self.new.file ≡ self.old.file) × (self.new.front ≡ self.old.front) }
-        ensures stopped { (files : Files) → D.says.seen disk.old files → KnowsEnd self.old files → IfOk result (λ read. IfErr read (HasStopped self.old.reader.number self.old.reader.at (text_left self.old files) self.new.reader)) }
+        ensures stopped { (files : Files) → D.says.seen disk.old files → KnowsEnd self.old files →
+            IfOk result (λ read. IfErr read (HasStopped self.old.reader.number self.old.reader.at (text_left self.old files) self.new.reader)) }
         ensures fault { IfErr result SaysNothing }
         ensures reads { OnlyReads D.says disk.old disk.new }
         ensures unfailed { UnlessFault result (D.says.faults disk.new ≡ D.says.faults disk.old) }
@@ -225,10 +230,12 @@ impl FileGroups {
         piece: &mut [u8],
     ) -> Result<Result<u64, u64>, OpenFault>
         requires room { 0 < length piece.old }
-        ensures text { (files : Files) → D.says.seen disk.old files → KnowsEnd self.old files → IfOk result (λ read. IfOk read (λ size. KnowsEnd self.new files × (text_left self.old files ≡ head_of self.old.reader.number size ++ text_left self.new files))) }
+        ensures text { (files : Files) → D.says.seen disk.old files → KnowsEnd self.old files →
+            IfOk result (λ read. IfOk read (λ size. KnowsEnd self.new files × (text_left self.old files ≡ head_of self.old.reader.number size ++ text_left self.new files))) }
         ensures come { IfOk result (λ read. IfOk read (λ size. (size ≤ largest_wide) × (self.new.reader.at ≡ self.old.reader.at + length (head_of self.old.reader.number size)))) }
         ensures file { (self.new.file ≡ self.old.file) × (self.new.front ≡ self.old.front) }
-        ensures stopped { (files : Files) → D.says.seen disk.old files → KnowsEnd self.old files → IfOk result (λ read. IfErr read (IsStop self.old.reader.at (text_left self.old files) (head_at self.old.reader.number))) }
+        ensures stopped { (files : Files) → D.says.seen disk.old files → KnowsEnd self.old files →
+            IfOk result (λ read. IfErr read (IsStop self.old.reader.at (text_left self.old files) (head_at self.old.reader.number))) }
         ensures fault { IfErr result SaysNothing }
         ensures reads { OnlyReads D.says disk.old disk.new }
         ensures unfailed { UnlessFault result (D.says.faults disk.new ≡ D.says.faults disk.old) }
@@ -261,10 +268,12 @@ impl FileGroups {
         size: u64,
     ) -> Result<RecordTaken, OpenFault>
         requires room { 0 < length piece.old }
-        ensures text { (files : Files) → D.says.seen disk.old files → KnowsEnd self.old files → IfOk result (λ read. IfOk read (λ taken. KnowsEnd self.new files × (text_left self.old files ≡ change_text taken.0 ++ text_left self.new files))) }
+        ensures text { (files : Files) → D.says.seen disk.old files → KnowsEnd self.old files →
+            IfOk result (λ read. IfOk read (λ taken. KnowsEnd self.new files × (text_left self.old files ≡ change_text taken.0 ++ text_left self.new files))) }
         ensures come { IfOk result (λ read. IfOk read (λ taken. IsRecord taken.0.row × (size ≡ length (change_text taken.0) + taken.1) × (taken.1 < size) × (self.new.reader.at ≡ self.old.reader.at + length (change_text taken.0)))) }
         ensures file { (self.new.file ≡ self.old.file) × (self.new.front ≡ self.old.front) }
-        ensures stopped { (files : Files) → D.says.seen disk.old files → KnowsEnd self.old files → IfOk result (λ read. IfErr read (IsStop self.old.reader.at (text_left self.old files) (window_at size))) }
+        ensures stopped { (files : Files) → D.says.seen disk.old files → KnowsEnd self.old files →
+            IfOk result (λ read. IfErr read (IsStop self.old.reader.at (text_left self.old files) (window_at size))) }
         ensures fault { IfErr result SaysNothing }
         ensures reads { OnlyReads D.says disk.old disk.new }
         ensures unfailed { UnlessFault result (D.says.faults disk.new ≡ D.says.faults disk.old) }

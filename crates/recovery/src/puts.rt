@@ -13,7 +13,8 @@ use std::alloc::{AllocError, Global};
 
 /// Whether a change puts a row above the last one that was put.
 fn follows(last: &Option<Change>, change: &Change) -> bool
-    ensures { (puts : List Change) → ArePuts puts → IsLastOf puts last.now → IsTrue result ↔ ArePuts (puts ++ change.now ∷ []) }
+    ensures { (puts : List Change) → ArePuts puts → IsLastOf puts last.now →
+        IsTrue result ↔ ArePuts (puts ++ change.now ∷ []) }
 {
     if change.op != Op::Put {
         return false;
@@ -31,7 +32,8 @@ pub(crate) fn put_waiting(
     waiting: Option<Change>,
 ) -> Result<(), AllocError>
     requires { (puts : List Change) × HasPut puts waiting (rows_of_draft draft.old) }
-    ensures { (puts : List Change) → HasPut puts waiting (rows_of_draft draft.old) → OnOk result (rows_of_draft draft.new ≡ changed_by no_rows puts) }
+    ensures { (puts : List Change) → HasPut puts waiting (rows_of_draft draft.old) →
+        OnOk result (rows_of_draft draft.new ≡ changed_by no_rows puts) }
 {
     match waiting {
         Some(change) => draft.take(alloc, change),
@@ -48,8 +50,10 @@ pub(crate) fn put_above(
     change: Change,
 ) -> Result<bool, AllocError>
     requires { (puts : List Change) × HasPut puts last.old (rows_of_draft draft.old) }
-    ensures above { (puts : List Change) → HasPut puts last.old (rows_of_draft draft.old) → IfOk result (λ above. IsTrue above → HasPut (puts ++ change ∷ []) last.new (rows_of_draft draft.new)) }
-    ensures none { (puts : List Change) → HasPut puts last.old (rows_of_draft draft.old) → IfOk result (λ above. IsFalse above → ArePuts (puts ++ change ∷ []) → ⊥) }
+    ensures above { (puts : List Change) → HasPut puts last.old (rows_of_draft draft.old) →
+        IfOk result (λ above. IsTrue above → HasPut (puts ++ change ∷ []) last.new (rows_of_draft draft.new)) }
+    ensures none { (puts : List Change) → HasPut puts last.old (rows_of_draft draft.old) →
+        IfOk result (λ above. IsFalse above → ArePuts (puts ++ change ∷ []) → ⊥) }
 {
     if !follows(last, &change) {
         drop(change);

@@ -68,12 +68,16 @@ fn generation_of(root: &[u8]) -> Result<u32, u64>
 
 /// The generation that the root tells.
 pub(crate) fn read_root<D: Disk>(disk: &mut D) -> Result<u32, OpenFault>
-    ensures root { (files : Files) → D.says.seen disk.old files → IfOk result (λ generation. IsRoot generation (files 0)) }
+    ensures root { (files : Files) → D.says.seen disk.old files →
+        IfOk result (λ generation. IsRoot generation (files 0)) }
     ensures last { IfOk result (λ generation. generation ≤ 4095) }
-    ensures only { (files : Files) (generation : ℕ) → D.says.seen disk.old files → IsRoot generation (files 0) → IsReadOrSaysNothing result (λ found. found ≡ generation) }
-    ensures damaged { (files contents : Files) → D.says.seen disk.old files → IfErr result (Tells (IsDamage files contents)) }
+    ensures only { (files : Files) (generation : ℕ) → D.says.seen disk.old files → IsRoot generation (files 0) →
+        IsReadOrSaysNothing result (λ found. found ≡ generation) }
+    ensures damaged { (files contents : Files) → D.says.seen disk.old files →
+        IfErr result (Tells (IsDamage files contents)) }
     ensures unmade { (files : Files) → D.says.seen disk.old files → result ≡ Err Unmade → length (files 0) ≡ 0 }
-    ensures exactly { (files : Files) → D.says.seen disk.old files → length (files 0) ≡ 0 → IsUnmadeOrSaysNothing result }
+    ensures exactly { (files : Files) → D.says.seen disk.old files → length (files 0) ≡ 0 →
+        IsUnmadeOrSaysNothing result }
     ensures reads { OnlyReads D.says disk.old disk.new }
     ensures unfailed { UnlessFault result (D.says.faults disk.new ≡ D.says.faults disk.old) }
     ensures cause { IsCause (D.says.faults disk.old) (D.says.faults disk.new) (result ≡ Err DiskFault) }

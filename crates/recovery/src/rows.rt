@@ -129,11 +129,16 @@ fn put_next<D: Disk>(
     requires room { 0 < length piece.old }
     requires some { 0 < size }
     requires taken { (generation : ℕ) × ((puts : List Change) × (HasTaken (D.says.seen disk.old) generation groups.old size puts × HasPut puts last.old (rows_of_draft draft.old))) }
-    ensures put { (generation : ℕ) (puts : List Change) → HasTaken (D.says.seen disk.old) generation groups.old size puts → HasPut puts last.old (rows_of_draft draft.old) →
+    ensures put { (generation : ℕ) (puts : List Change) →
+        HasTaken (D.says.seen disk.old) generation groups.old size puts →
+        HasPut puts last.old (rows_of_draft draft.old) →
         IfOk result (λ behind. (put : Change) × (HasTaken (D.says.seen disk.old) generation groups.new behind (puts ++ put ∷ []) × HasPut (puts ++ put ∷ []) last.new (rows_of_draft draft.new))) }
     ensures less { IfOk result (λ behind. behind < size) }
-    ensures damaged { (generation : ℕ) (puts : List Change) → HasTaken (D.says.seen disk.old) generation groups.old size puts → HasPut puts last.old (rows_of_draft draft.old) → generation ≤ 4095 →
-        (files : Files) → D.says.seen disk.old files → IfDamaged result (IsCheckpointDamage generation (files (2 + 2 * generation))) }
+    ensures damaged { (generation : ℕ) (puts : List Change) →
+        HasTaken (D.says.seen disk.old) generation groups.old size puts →
+        HasPut puts last.old (rows_of_draft draft.old) → generation ≤ 4095 →
+        (files : Files) → D.says.seen disk.old files →
+        IfDamaged result (IsCheckpointDamage generation (files (2 + 2 * generation))) }
     ensures file { groups.new.file ≡ groups.old.file }
     ensures fault { IfErr result (IsOfFile groups.old.file) }
     ensures reads { OnlyReads D.says disk.old disk.new }
@@ -164,9 +169,12 @@ fn put_all<D: Disk>(
     requires room { 0 < length piece.old }
     requires taken { (generation : ℕ) × HasTaken (D.says.seen disk.old) generation groups.old size [] }
     requires none { rows_of_draft draft.old ≡ no_rows }
-    ensures rows { (generation : ℕ) → HasTaken (D.says.seen disk.old) generation groups.old size [] → OnOk result (HasCheckpoint (D.says.seen disk.old) generation (rows_of_draft draft.new)) }
-    ensures damaged { (generation : ℕ) → HasTaken (D.says.seen disk.old) generation groups.old size [] → generation ≤ 4095 →
-        (files : Files) → D.says.seen disk.old files → IfDamaged result (IsCheckpointDamage generation (files (2 + 2 * generation))) }
+    ensures rows { (generation : ℕ) → HasTaken (D.says.seen disk.old) generation groups.old size [] →
+        OnOk result (HasCheckpoint (D.says.seen disk.old) generation (rows_of_draft draft.new)) }
+    ensures damaged { (generation : ℕ) → HasTaken (D.says.seen disk.old) generation groups.old size [] →
+        generation ≤ 4095 →
+        (files : Files) → D.says.seen disk.old files →
+        IfDamaged result (IsCheckpointDamage generation (files (2 + 2 * generation))) }
     ensures fault { IfErr result (IsOfFile groups.old.file) }
     ensures reads { OnlyReads D.says disk.old disk.new }
     ensures unfailed { UnlessFault result (D.says.faults disk.new ≡ D.says.faults disk.old) }
@@ -197,12 +205,16 @@ fn next_changes<D: Disk>(
     draft: &mut TablesDraft,
 ) -> Result<Option<Sequence<Change>>, OpenFault>
     requires room { 0 < length piece.old }
-    ensures text { (files : Files) → D.says.seen disk.old files → KnowsEnd groups.old files → IfOk result (λ found. KnowsEnd groups.new files × IsFirst groups.old.reader.number (text_left groups.old files) (text_left groups.new files) found) }
+    ensures text { (files : Files) → D.says.seen disk.old files → KnowsEnd groups.old files →
+        IfOk result (λ found. KnowsEnd groups.new files × IsFirst groups.old.reader.number (text_left groups.old files) (text_left groups.new files) found) }
     ensures come { IfOk result (HasCome groups.old groups.new) }
     ensures file { (groups.new.file ≡ groups.old.file) × (groups.new.front ≡ groups.old.front) }
     ensures draft { IfOk result (λ found. rows_of_draft draft.new ≡ rows_of_draft draft.old) }
-    ensures only { (files : Files) → D.says.seen disk.old files → KnowsEnd groups.old files → groups.old.reader.number < 2 ^ 64 → BeginsWanted groups.old.reader.number (text_left groups.old files) → IfErr result SaysNothing }
-    ensures damaged { (files : Files) → D.says.seen disk.old files → KnowsEnd groups.old files → IfDamaged result (λ place. (found : ℕ) × ((place ≡ found - groups.old.front) × IsTextDamage (AllFitIn (rows_of_draft draft.old)) groups.old.reader.number groups.old.reader.at (text_left groups.old files) found)) }
+    ensures only { (files : Files) → D.says.seen disk.old files → KnowsEnd groups.old files →
+        groups.old.reader.number < 2 ^ 64 → BeginsWanted groups.old.reader.number (text_left groups.old files) →
+        IfErr result SaysNothing }
+    ensures damaged { (files : Files) → D.says.seen disk.old files → KnowsEnd groups.old files →
+        IfDamaged result (λ place. (found : ℕ) × ((place ≡ found - groups.old.front) × IsTextDamage (AllFitIn (rows_of_draft draft.old)) groups.old.reader.number groups.old.reader.at (text_left groups.old files) found)) }
     ensures fault { IfErr result (IsOfFile groups.old.file) }
     ensures reads { OnlyReads D.says disk.old disk.new }
     ensures unfailed { UnlessFault result (D.says.faults disk.new ≡ D.says.faults disk.old) }
@@ -227,8 +239,11 @@ pub(crate) fn read_checkpoint<D: Disk>(
     requires room { 0 < length piece.old }
     requires last { generation ≤ 4095 }
     ensures rows { IfOk result (λ draft. HasCheckpoint (D.says.seen disk.old) generation (rows_of_draft draft)) }
-    ensures only { (files : Files) (puts : List Change) → D.says.seen disk.old files → Begins (group_text generation puts) (files (2 + 2 * generation)) → IsCheckpoint puts → IfErr result SaysNothing }
-    ensures damaged { (files : Files) → D.says.seen disk.old files → IfDamaged result (IsCheckpointDamage generation (files (2 + 2 * generation))) }
+    ensures only { (files : Files) (puts : List Change) → D.says.seen disk.old files →
+        Begins (group_text generation puts) (files (2 + 2 * generation)) → IsCheckpoint puts →
+        IfErr result SaysNothing }
+    ensures damaged { (files : Files) → D.says.seen disk.old files →
+        IfDamaged result (IsCheckpointDamage generation (files (2 + 2 * generation))) }
     ensures fault { IfErr result (IsOfFile (2 + 2 * generation)) }
     ensures reads { OnlyReads D.says disk.old disk.new }
     ensures unfailed { UnlessFault result (D.says.faults disk.new ≡ D.says.faults disk.old) }
@@ -260,8 +275,11 @@ pub(crate) fn read_journal<D: Disk>(
     requires room { 0 < length piece.old }
     requires last { generation ≤ 4095 }
     ensures rows { IfOk result (λ end. HasJournal (D.says.seen disk.old) (1 + 2 * generation) end (rows_of_draft draft.old) (rows_of_draft draft.new)) }
-    ensures only { (files : Files) (groups : List (List Change)) → D.says.seen disk.old files → HasGroups 1 (files (1 + 2 * generation)) groups → AllFitIn (rows_of_draft draft.old) (joined groups) → IfErr result SaysNothing }
-    ensures damaged { (files : Files) → D.says.seen disk.old files → IfDamaged result (IsJournalDamage (rows_of_draft draft.old) (files (1 + 2 * generation))) }
+    ensures only { (files : Files) (groups : List (List Change)) → D.says.seen disk.old files →
+        HasGroups 1 (files (1 + 2 * generation)) groups → AllFitIn (rows_of_draft draft.old) (joined groups) →
+        IfErr result SaysNothing }
+    ensures damaged { (files : Files) → D.says.seen disk.old files →
+        IfDamaged result (IsJournalDamage (rows_of_draft draft.old) (files (1 + 2 * generation))) }
     ensures fault { IfErr result (IsOfFile (1 + 2 * generation)) }
     ensures reads { OnlyReads D.says disk.old disk.new }
     ensures unfailed { UnlessFault result (D.says.faults disk.new ≡ D.says.faults disk.old) }

@@ -54,11 +54,14 @@ fn check_rules(alloc: Global, found: &Found) -> Result<(), OpenFault>
 pub(crate) fn read_kept_rows<D: Disk>(alloc: Global, disk: &mut D) -> Result<Found, OpenFault>
     ensures found { IfOk result (λ found. HasFound (D.says.seen disk.old) found) }
     ensures suit { IfOk result (λ found. SuitFiles found.generation (rows_of found.tables)) }
-    ensures only { (files : Files) (rows : AllRows) → D.says.seen disk.old files → (hold : Hold files rows) → SuitFiles hold.was.generation rows →
+    ensures only { (files : Files) (rows : AllRows) → D.says.seen disk.old files → (hold : Hold files rows) →
+        SuitFiles hold.was.generation rows →
         IsReadOrSaysNothing result (λ found. (table : TableId) → rows_of found.tables table ≡ rows table) }
-    ensures damaged { (files contents : Files) → D.says.seen disk.old files → IfErr result (Tells (IsDamage files contents)) }
+    ensures damaged { (files contents : Files) → D.says.seen disk.old files →
+        IfErr result (Tells (IsDamage files contents)) }
     ensures unmade { (files : Files) → D.says.seen disk.old files → result ≡ Err Unmade → length (files 0) ≡ 0 }
-    ensures exactly { (files : Files) → D.says.seen disk.old files → length (files 0) ≡ 0 → IsUnmadeOrSaysNothing result }
+    ensures exactly { (files : Files) → D.says.seen disk.old files → length (files 0) ≡ 0 →
+        IsUnmadeOrSaysNothing result }
     ensures reads { OnlyReads D.says disk.old disk.new }
     ensures unfailed { UnlessFault result (D.says.faults disk.new ≡ D.says.faults disk.old) }
     ensures cause { IsCause (D.says.faults disk.old) (D.says.faults disk.new) (result ≡ Err DiskFault) }

@@ -108,9 +108,11 @@ fn piece_at<C: Contents>(
     requires { spot.length ≤ 8388608 }
     ensures piece { (bytes : List ℕ) → C.tells contents.new bytes → IfOk result (λ text. Has bytes spot text) }
     ensures whole { IfOk result (λ text. length text ≡ spot.length) }
-    ensures absent { (bytes : List ℕ) (at : ℕ) → C.tells contents.new bytes → result ≡ Err (faults.Absent at) → (at ≡ place) × (length bytes < spot.at + spot.length) }
+    ensures absent { (bytes : List ℕ) (at : ℕ) → C.tells contents.new bytes → result ≡ Err (faults.Absent at) →
+        (at ≡ place) × (length bytes < spot.at + spot.length) }
     ensures never_bad { (at : ℕ) → result ≡ Err (faults.BadContent at) → ⊥ }
-    ensures grows { (before : List ℕ) → C.tells contents.old before → (now : List ℕ) × (C.tells contents.new now × IsFront before now) }
+    ensures grows { (before : List ℕ) → C.tells contents.old before →
+        (now : List ℕ) × (C.tells contents.new now × IsFront before now) }
     ensures keeps { C.keeps contents.old contents.new }
     ensures only { StandsUnlessFailed (C.faults contents.old) (C.faults contents.new) result }
     ensures cause { HasPrintCause (C.faults contents.old) (C.faults contents.new) result }
@@ -131,9 +133,11 @@ fn bytes_of<C: Contents>(
 ) -> Result<Text, PrintFault>
     ensures bytes { (before : List ℕ) → C.tells contents.old before →
         IfOk result (λ text. GrowsTo (C.tells contents.new) before (λ now. HasContent now revision.now text)) }
-    ensures absent { (now : List ℕ) (at : ℕ) → C.tells contents.new now → result ≡ Err (faults.Absent at) → (at ≡ revision.now.at) × EndsBehind now revision.now }
+    ensures absent { (now : List ℕ) (at : ℕ) → C.tells contents.new now → result ≡ Err (faults.Absent at) →
+        (at ≡ revision.now.at) × EndsBehind now revision.now }
     ensures never_bad { (at : ℕ) → result ≡ Err (faults.BadContent at) → ⊥ }
-    ensures grows { (before : List ℕ) → C.tells contents.old before → (now : List ℕ) × (C.tells contents.new now × IsFront before now) }
+    ensures grows { (before : List ℕ) → C.tells contents.old before →
+        (now : List ℕ) × (C.tells contents.new now × IsFront before now) }
     ensures reached { Reaches C.keeps contents.old contents.new }
     ensures only { StandsUnlessFailed (C.faults contents.old) (C.faults contents.new) result }
     ensures cause { HasPrintCause (C.faults contents.old) (C.faults contents.new) result }
@@ -161,12 +165,16 @@ fn content_of<C: Contents>(
     contents: &mut C,
     row: &Row,
 ) -> Result<Text, PrintFault>
-    ensures told { (d : List Deed) (content before : List ℕ) → Stand (rows_of tables.now) d → IsShown d row.now content → C.tells contents.old before →
+    ensures told { (d : List Deed) (content before : List ℕ) → Stand (rows_of tables.now) d →
+        IsShown d row.now content → C.tells contents.old before →
         HasContents before (rows_of tables.now) d → Gives (λ text. text ≡ content) result }
     ensures digested { IfOk result (IsDigested (rows_of tables.now) row.now) }
-    ensures given { (before : List ℕ) → C.tells contents.old before → IfOk result (λ text. GrowsTo (C.tells contents.new) before (λ now. IsGiven (rows_of tables.now) now row.now text)) }
-    ensures fault { (before : List ℕ) → C.tells contents.old before → IfErr result (λ fault. GrowsTo (C.tells contents.new) before (λ now. IsFaultOf (rows_of tables.now) now row.now fault)) }
-    ensures grows { (before : List ℕ) → C.tells contents.old before → (now : List ℕ) × (C.tells contents.new now × IsFront before now) }
+    ensures given { (before : List ℕ) → C.tells contents.old before →
+        IfOk result (λ text. GrowsTo (C.tells contents.new) before (λ now. IsGiven (rows_of tables.now) now row.now text)) }
+    ensures fault { (before : List ℕ) → C.tells contents.old before →
+        IfErr result (λ fault. GrowsTo (C.tells contents.new) before (λ now. IsFaultOf (rows_of tables.now) now row.now fault)) }
+    ensures grows { (before : List ℕ) → C.tells contents.old before →
+        (now : List ℕ) × (C.tells contents.new now × IsFront before now) }
     ensures reached { Reaches C.keeps contents.old contents.new }
     ensures only { StandsUnlessFailed (C.faults contents.old) (C.faults contents.new) result }
     ensures cause { HasPrintCause (C.faults contents.old) (C.faults contents.new) result }
@@ -189,14 +197,18 @@ fn fill_row<C: Contents>(
     contents: &mut C,
     row: &mut Row,
 ) -> Result<(), PrintFault>
-    ensures told { (d : List Deed) (told : AnyRow) (before : List ℕ) → Stand (rows_of tables.now) d → ((content : List ℕ) → told.content ≡ Some content → IsShown d told content) →
-        row.old ≡ waiting told → C.tells contents.old before → HasContents before (rows_of tables.now) d → Gives (λ _. row.new ≡ told) result }
+    ensures told { (d : List Deed) (told : AnyRow) (before : List ℕ) → Stand (rows_of tables.now) d →
+        ((content : List ℕ) → told.content ≡ Some content → IsShown d told content) →
+        row.old ≡ waiting told → C.tells contents.old before → HasContents before (rows_of tables.now) d →
+        Gives (λ _. row.new ≡ told) result }
     ensures same { OnOk result (waiting row.new ≡ waiting row.old) }
     ensures digested { OnOk result ((content : List ℕ) → row.new.content ≡ Some content → IsDigested (rows_of tables.now) row.new content) }
-    ensures given { (before : List ℕ) → C.tells contents.old before → OnOk result (GrowsTo (C.tells contents.new) before (λ now. IsGivenIn (rows_of tables.now) now row.new)) }
+    ensures given { (before : List ℕ) → C.tells contents.old before →
+        OnOk result (GrowsTo (C.tells contents.new) before (λ now. IsGivenIn (rows_of tables.now) now row.new)) }
     ensures fault { (before : List ℕ) → C.tells contents.old before →
         IfErr result (λ fault. IsSome row.old.content × GrowsTo (C.tells contents.new) before (λ now. IsFaultOf (rows_of tables.now) now row.old fault)) }
-    ensures grows { (before : List ℕ) → C.tells contents.old before → (now : List ℕ) × (C.tells contents.new now × IsFront before now) }
+    ensures grows { (before : List ℕ) → C.tells contents.old before →
+        (now : List ℕ) × (C.tells contents.new now × IsFront before now) }
     ensures reached { Reaches C.keeps contents.old contents.new }
     ensures only { StandsUnlessFailed (C.faults contents.old) (C.faults contents.new) result }
     ensures cause { HasPrintCause (C.faults contents.old) (C.faults contents.new) result }
@@ -215,12 +227,16 @@ fn fill_rows<C: Contents>(
     contents: &mut C,
     reply: Reply,
 ) -> Result<Reply, PrintFault>
-    ensures told { (d : List Deed) (told : List AnyRow) (before : List ℕ) → Stand (rows_of tables.now) d → AreShown d told → reply.rows ≡ map waiting told →
-        C.tells contents.old before → HasContents before (rows_of tables.now) d → Gives (λ filled. filled.rows ≡ told) result }
+    ensures told { (d : List Deed) (told : List AnyRow) (before : List ℕ) → Stand (rows_of tables.now) d →
+        AreShown d told → reply.rows ≡ map waiting told →
+        C.tells contents.old before → HasContents before (rows_of tables.now) d →
+        Gives (λ filled. filled.rows ≡ told) result }
     ensures same { IfOk result (λ filled. map waiting filled.rows ≡ map waiting reply.rows) }
     ensures digested { IfOk result (λ filled. AreDigested (rows_of tables.now) filled.rows) }
-    ensures given { (before : List ℕ) → C.tells contents.old before → IfOk result (λ filled. GrowsTo (C.tells contents.new) before (λ now. AreGiven (rows_of tables.now) now filled.rows)) }
-    ensures fault { (before : List ℕ) → C.tells contents.old before → IfErr result (λ fault. GrowsTo (C.tells contents.new) before (λ now. IsFirstFault (rows_of tables.now) now reply.rows fault)) }
+    ensures given { (before : List ℕ) → C.tells contents.old before →
+        IfOk result (λ filled. GrowsTo (C.tells contents.new) before (λ now. AreGiven (rows_of tables.now) now filled.rows)) }
+    ensures fault { (before : List ℕ) → C.tells contents.old before →
+        IfErr result (λ fault. GrowsTo (C.tells contents.new) before (λ now. IsFirstFault (rows_of tables.now) now reply.rows fault)) }
     ensures reached { Reaches C.keeps contents.old contents.new }
     ensures only { StandsUnlessFailed (C.faults contents.old) (C.faults contents.new) result }
     ensures cause { HasPrintCause (C.faults contents.old) (C.faults contents.new) result }
@@ -248,9 +264,12 @@ pub fn answer_print<C: Contents>(
 ) -> Result<Reply, PrintFault>
     ensures rows { IfOk result (λ reply. (d : List Deed) → Stand (rows_of replica.now.tables) d → IsFormedBy request.now → AreRowsOf d request.now reply.rows) }
     ensures digested { IfOk result (λ reply. AreDigested (rows_of replica.now.tables) reply.rows) }
-    ensures told { (d : List Deed) (bytes : List ℕ) → Stand (rows_of replica.now.tables) d → IsFormedBy request.now → C.tells contents.old bytes →
-        HasContents bytes (rows_of replica.now.tables) d → Gives (λ reply. reply.rows ≡ replica_reply d request.now) result }
-    ensures given { (bytes : List ℕ) → C.tells contents.old bytes → IfOk result (λ reply. GrowsTo (C.tells contents.new) bytes (λ now. AreGiven (rows_of replica.now.tables) now reply.rows)) }
+    ensures told { (d : List Deed) (bytes : List ℕ) → Stand (rows_of replica.now.tables) d → IsFormedBy request.now →
+        C.tells contents.old bytes →
+        HasContents bytes (rows_of replica.now.tables) d →
+        Gives (λ reply. reply.rows ≡ replica_reply d request.now) result }
+    ensures given { (bytes : List ℕ) → C.tells contents.old bytes →
+        IfOk result (λ reply. GrowsTo (C.tells contents.new) bytes (λ now. AreGiven (rows_of replica.now.tables) now reply.rows)) }
     ensures fault { (bytes : List ℕ) → IsFormedBy request.now → C.tells contents.old bytes →
         IfErr result (λ fault. GrowsTo (C.tells contents.new) bytes (λ now. IsPrintFault (rows_of replica.now.tables) request.now now fault)) }
     ensures reached { Reaches C.keeps contents.old contents.new }

@@ -65,7 +65,8 @@ fn compare_pieces(at: u64, node: Fetched, node_bytes: &[u8], up: Fetched, up_byt
     requires node_fits { Fits node (length node_bytes.now) }
     requires up_fits { Fits up (length up_bytes.now) }
     // Of journals that are the same up to the place.
-    ensures compared { (texts others : List (List ℕ)) (generation : ℕ) → AreSameTo texts others generation at → Answers texts generation at node node_bytes.now → Answers others generation at up up_bytes.now →
+    ensures compared { (texts others : List (List ℕ)) (generation : ℕ) → AreSameTo texts others generation at →
+        Answers texts generation at node node_bytes.now → Answers others generation at up up_bytes.now →
         IsComparedPiece texts others generation at result }
     ensures some { GoesOn (length node_bytes.now) result }
 {
@@ -95,7 +96,8 @@ fn compare_generation<D: Disk>(
 ) -> Result<Compared, DiskFault>
     requires room { 0 < length buffer.old }
     requires other_room { 0 < length other.old }
-    ensures exactly { (texts others : List (List ℕ)) → HasTexts D.says node.old texts → HasTexts D.says up.old others → IfOk result (IsCompared texts others generation) }
+    ensures exactly { (texts others : List (List ℕ)) → HasTexts D.says node.old texts → HasTexts D.says up.old others →
+        IfOk result (IsCompared texts others generation) }
     ensures node_looked { IsLooked D.says node.old node.new }
     ensures up_looked { IsLooked D.says up.old up.new }
     ensures node_faults { D.says.faults (disk_of node.old) ≤ D.says.faults (disk_of node.new) }
@@ -122,7 +124,8 @@ fn first_departure<D: Disk>(
     node: &mut Journal<D>,
     up: &mut Journal<D>,
 ) -> Result<Option<Departure>, DiskFault>
-    ensures exactly { (texts others : List (List ℕ)) → HasTexts D.says node.old texts → HasTexts D.says up.old others → IfOk result (IsComparison texts others) }
+    ensures exactly { (texts others : List (List ℕ)) → HasTexts D.says node.old texts → HasTexts D.says up.old others →
+        IfOk result (IsComparison texts others) }
     ensures node_looked { IsLooked D.says node.old node.new }
     ensures up_looked { IsLooked D.says up.old up.new }
     ensures node_faults { D.says.faults (disk_of node.old) ≤ D.says.faults (disk_of node.new) }
@@ -147,14 +150,16 @@ impl<D: Disk> Node<D> {
     /// it differs, where it goes on past it, or where it is closed and the other isn't closed there. It takes no
     /// memory.
     pub fn departs(&mut self, up: &mut Node<D>) -> Result<Option<Departure>, DiskFault>
-        ensures exactly { (texts others : List (List ℕ)) → HasTexts D.says self.old.link.journal texts → HasTexts D.says up.old.link.journal others → IfOk result (IsComparison texts others) }
+        ensures exactly { (texts others : List (List ℕ)) → HasTexts D.says self.old.link.journal texts →
+            HasTexts D.says up.old.link.journal others → IfOk result (IsComparison texts others) }
         // Both journals were only looked at, and what the nodes have they still have.
         ensures node_looked { IsLooked D.says self.old.link.journal self.new.link.journal }
         ensures up_looked { IsLooked D.says up.old.link.journal up.new.link.journal }
         // So were the links, from which the next nodes follow.
         ensures links { IsLinkLooked D.says self.old.link self.new.link × IsLinkLooked D.says up.old.link up.new.link }
         ensures others { (self.new ≡ record self.old { link = self.new.link }) × (up.new ≡ record up.old { link = up.new.link }) }
-        ensures nodes { (c : Chronicle) → (IsNode D.says self.old c → IsNode D.says self.new c) × (IsNode D.says up.old c → IsNode D.says up.new c) }
+        ensures nodes { (c : Chronicle) →
+            (IsNode D.says self.old c → IsNode D.says self.new c) × (IsNode D.says up.old c → IsNode D.says up.new c) }
         ensures can { (CanFollow D.says self.old → CanFollow D.says self.new) × (CanFollow D.says up.old → CanFollow D.says up.new) }
         ensures node_faults { D.says.faults (disk_of self.old.link.journal) ≤ D.says.faults (disk_of self.new.link.journal) }
         ensures up_faults { D.says.faults (disk_of up.old.link.journal) ≤ D.says.faults (disk_of up.new.link.journal) }

@@ -80,11 +80,16 @@ fn copy_piece<D: Disk, C: Contents>(
     requires room { AllReach (D.says.may_leave (disk_of archive.old)) spot.at }
     ensures fits { OnOk result (spot_end_of spot < 2 ^ 63) }
     ensures copied { OnOk result ((content : List ℕ) × (((bytes : List ℕ) → C.tells contents.new bytes → Has bytes spot content) × (AllHave (D.says.may_leave (disk_of archive.new)) spot content × (length content ≡ spot.length)))) }
-    ensures kept { (other : AnySpot) (bytes : List ℕ) → spot_end_of other ≤ spot.at → AllHave (D.says.may_leave (disk_of archive.old)) other bytes → AllHave (D.says.may_leave (disk_of archive.new)) other bytes }
-    ensures any_moment { (other : AnySpot) (bytes : List ℕ) → spot_end_of other ≤ spot.at → AllHave (D.says.may_leave (disk_of archive.old)) other bytes → LeavesOnly D.says (disk_of archive.old) (disk_of archive.new) (λ c. Has (c 0) other bytes) }
+    ensures kept { (other : AnySpot) (bytes : List ℕ) → spot_end_of other ≤ spot.at →
+        AllHave (D.says.may_leave (disk_of archive.old)) other bytes →
+        AllHave (D.says.may_leave (disk_of archive.new)) other bytes }
+    ensures any_moment { (other : AnySpot) (bytes : List ℕ) → spot_end_of other ≤ spot.at →
+        AllHave (D.says.may_leave (disk_of archive.old)) other bytes →
+        LeavesOnly D.says (disk_of archive.old) (disk_of archive.new) (λ c. Has (c 0) other bytes) }
     ensures told { StillTells (D.says.seen (disk_of archive.old)) (D.says.seen (disk_of archive.new)) }
     ensures used { used_of archive.new ≡ used_of archive.old }
-    ensures grows { (before : List ℕ) → C.tells contents.old before → (now : List ℕ) × (C.tells contents.new now × IsFront before now) }
+    ensures grows { (before : List ℕ) → C.tells contents.old before →
+        (now : List ℕ) × (C.tells contents.new now × IsFront before now) }
     ensures absent { IfNoBytes result (λ place. (place ≡ spot.at) × ((bytes : List ℕ) → C.tells contents.new bytes → length bytes < spot_end_of spot)) }
     ensures only { IfErr result IsOfCopying }
     ensures looked { C.keeps contents.old contents.new }
@@ -113,7 +118,8 @@ fn copy_contents<D: Disk, C: Contents>(
     ensures fits { OnOk result (used_of archive.old < end → end < 2 ^ 63) }
     ensures copied { OnOk result (AreCopied D.says (C.tells contents.old) (C.tells contents.new) archive.old archive.new end) }
     ensures keeps { KeepsUsed D.says archive.old archive.new }
-    ensures grows { (before : List ℕ) → C.tells contents.old before → (now : List ℕ) × (C.tells contents.new now × IsFront before now) }
+    ensures grows { (before : List ℕ) → C.tells contents.old before →
+        (now : List ℕ) × (C.tells contents.new now × IsFront before now) }
     ensures absent { IfNoBytes result (λ place. (bytes : List ℕ) → C.tells contents.new bytes → IsAbsent bytes (used_of archive.old) end place) }
     ensures only { IfErr result IsOfCopying }
     ensures contents_reached { Reaches C.keeps contents.old contents.new }
@@ -135,8 +141,11 @@ pub(crate) fn check_content<D: Disk>(
     archive: &mut Archive<D>,
     revision: &RevRecord,
 ) -> Result<(), NodeFault>
-    ensures good { (files : Files) → D.says.seen (disk_of archive.old) files → revision.now.at + revision.now.length ≤ length (files 0) → OnOk result (HasDigested (files 0) revision.now) }
-    ensures bad { (files : Files) → D.says.seen (disk_of archive.old) files → revision.now.at + revision.now.length ≤ length (files 0) → IfBadContent result (λ place. (place ≡ revision.now.at) × (revision.now.digest ≢ digest (bytes_at (files 0) revision.now))) }
+    ensures good { (files : Files) → D.says.seen (disk_of archive.old) files →
+        revision.now.at + revision.now.length ≤ length (files 0) → OnOk result (HasDigested (files 0) revision.now) }
+    ensures bad { (files : Files) → D.says.seen (disk_of archive.old) files →
+        revision.now.at + revision.now.length ≤ length (files 0) →
+        IfBadContent result (λ place. (place ≡ revision.now.at) × (revision.now.digest ≢ digest (bytes_at (files 0) revision.now))) }
     ensures only { IfErr result IsOfContents }
     ensures reads { OnlyReads D.says (disk_of archive.old) (disk_of archive.new) }
     ensures used { used_of archive.new ≡ used_of archive.old }
@@ -162,8 +171,10 @@ fn check_named<D: Disk>(
     archive: &mut Archive<D>,
     change: &Change,
 ) -> Result<(), NodeFault>
-    ensures good { (files : Files) → D.says.seen (disk_of archive.old) files → named_end change.now.op change.now.row ≤ length (files 0) → OnOk result (HasNamed (files 0) change.now) }
-    ensures bad { (files : Files) → D.says.seen (disk_of archive.old) files → named_end change.now.op change.now.row ≤ length (files 0) →
+    ensures good { (files : Files) → D.says.seen (disk_of archive.old) files →
+        named_end change.now.op change.now.row ≤ length (files 0) → OnOk result (HasNamed (files 0) change.now) }
+    ensures bad { (files : Files) → D.says.seen (disk_of archive.old) files →
+        named_end change.now.op change.now.row ≤ length (files 0) →
         IfBadContent result (λ place. (row : AnyRevision) × (IsOfContent change.now row × ((place ≡ row.at) × (row.digest ≢ digest (bytes_at (files 0) row))))) }
     ensures only { IfErr result IsOfContents }
     ensures reads { OnlyReads D.says (disk_of archive.old) (disk_of archive.new) }
@@ -182,8 +193,10 @@ fn check_contents<D: Disk>(
     archive: &mut Archive<D>,
     changes: &[Change],
 ) -> Result<(), NodeFault>
-    ensures good { (files : Files) → D.says.seen (disk_of archive.old) files → named_ends changes.now ≤ length (files 0) → OnOk result (HasAllNamed (files 0) changes.now) }
-    ensures bad { (files : Files) → D.says.seen (disk_of archive.old) files → named_ends changes.now ≤ length (files 0) → IfBadContent result (IsBadContent (files 0) changes.now) }
+    ensures good { (files : Files) → D.says.seen (disk_of archive.old) files →
+        named_ends changes.now ≤ length (files 0) → OnOk result (HasAllNamed (files 0) changes.now) }
+    ensures bad { (files : Files) → D.says.seen (disk_of archive.old) files →
+        named_ends changes.now ≤ length (files 0) → IfBadContent result (IsBadContent (files 0) changes.now) }
     ensures only { IfErr result IsOfContents }
     ensures reads { OnlyReads D.says (disk_of archive.old) (disk_of archive.new) }
     ensures used { used_of archive.new ≡ used_of archive.old }

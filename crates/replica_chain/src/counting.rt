@@ -100,7 +100,8 @@ impl Counter {
 
     /// Counts the groups that are whole now.
     fn count_groups(&mut self, alloc: Global) -> Result<(), AllocError>
-        ensures counted { (text : List ℕ) → HasCounted text self.old.reader self.old.groups → OnOk result (HasCounted text self.new.reader self.new.groups) }
+        ensures counted { (text : List ℕ) → HasCounted text self.old.reader self.old.groups →
+            OnOk result (HasCounted text self.new.reader self.new.groups) }
         ensures none { OnOk result (HasNoGroup self.new.reader.number self.new.reader.left) }
         ensures bytes { self.new.bytes ≡ self.old.bytes }
     {
@@ -113,7 +114,8 @@ impl Counter {
 
     /// Takes the next bytes.
     fn take(&mut self, alloc: Global, piece: &[u8]) -> Result<(), AllocError>
-        ensures counted { (text : List ℕ) → HasCounted text self.old.reader self.old.groups → OnOk result (HasCounted (text ++ piece.now) self.new.reader self.new.groups) }
+        ensures counted { (text : List ℕ) → HasCounted text self.old.reader self.old.groups →
+            OnOk result (HasCounted (text ++ piece.now) self.new.reader self.new.groups) }
         ensures none { OnOk result (HasNoGroup self.new.reader.number self.new.reader.left) }
         ensures bytes { OnOk result (self.new.bytes ≡ self.old.bytes + length piece.now) }
     {
@@ -137,8 +139,11 @@ fn fetch_some<D: Disk>(
 ) -> Result<Option<usize>, OpenFault>
     requires room { 0 < length buffer.old }
     ensures some { IfOk result (λ found. IfSome found (λ n. (0 < n) × (n ≤ length buffer.new))) }
-    ensures told { (texts : List (List ℕ)) → HasTexts D.says journal.old texts → HasScanned D.says (disk_of journal.old) scanned.old → IfOk result (IsFound (text_of texts generation) at buffer.new) }
-    ensures scanned { HasScanned D.says (disk_of journal.old) scanned.old → HasScanned D.says (disk_of journal.new) scanned.new }
+    ensures told { (texts : List (List ℕ)) → HasTexts D.says journal.old texts →
+        HasScanned D.says (disk_of journal.old) scanned.old →
+        IfOk result (IsFound (text_of texts generation) at buffer.new) }
+    ensures scanned { HasScanned D.says (disk_of journal.old) scanned.old →
+        HasScanned D.says (disk_of journal.new) scanned.new }
     ensures only { IfErr result SaysNothing }
     ensures looked { IsLooked D.says journal.old journal.new }
     ensures cause { IsCause (D.says.faults (disk_of journal.old)) (D.says.faults (disk_of journal.new)) (result ≡ Err DiskFault) }
@@ -166,7 +171,8 @@ fn count_generation<D: Disk>(
 ) -> Result<Count, OpenFault>
     requires room { 0 < length buffer.old }
     // Of a generation whose text is that of groups.
-    ensures counted { (texts : List (List ℕ)) (groups : List (List AnyChange)) → HasTexts D.says journal.old texts → text_of texts generation ≡ groups_text 1 groups → AllByRecursion IsGroup groups →
+    ensures counted { (texts : List (List ℕ)) (groups : List (List AnyChange)) → HasTexts D.says journal.old texts →
+        text_of texts generation ≡ groups_text 1 groups → AllByRecursion IsGroup groups →
         IfOk result (λ count. (count.groups ≡ length groups) × (count.bytes ≡ length (groups_text 1 groups))) }
     ensures only { IfErr result SaysNothing }
     ensures looked { IsLooked D.says journal.old journal.new }
@@ -206,7 +212,9 @@ fn count_through<D: Disk>(
     buffer: &mut [u8],
 ) -> Result<Counts, OpenFault>
     requires room { 0 < length buffer.old }
-    ensures counted { (c : Chronicle) → HasTexts D.says journal.old (texts_of c) → generation_of_journal journal.old ≡ length c.closed → AllByRecursion (AllByRecursion IsGroup) (generations_of c) →
+    ensures counted { (c : Chronicle) → HasTexts D.says journal.old (texts_of c) →
+        generation_of_journal journal.old ≡ length c.closed →
+        AllByRecursion (AllByRecursion IsGroup) (generations_of c) →
         IfOk result (λ counts. (counts.before.bytes + counts.newest.bytes ≡ length (concat (texts_of c))) × (counts.newest.bytes ≡ length (groups_text 1 c.newest))
         × (counts.newest.groups ≡ length c.newest) × (counts.before.groups + counts.newest.groups + length c.closed ≡ length (changes_of c))) }
     ensures only { IfErr result SaysNothing }
@@ -233,7 +241,9 @@ pub(crate) fn count_journal<D: Disk>(
     alloc: Global,
     journal: &mut Journal<D>,
 ) -> Result<Counts, OpenFault>
-    ensures counted { (c : Chronicle) → HasTexts D.says journal.old (texts_of c) → generation_of_journal journal.old ≡ length c.closed → AllByRecursion (AllByRecursion IsGroup) (generations_of c) →
+    ensures counted { (c : Chronicle) → HasTexts D.says journal.old (texts_of c) →
+        generation_of_journal journal.old ≡ length c.closed →
+        AllByRecursion (AllByRecursion IsGroup) (generations_of c) →
         IfOk result (λ counts. (counts.before.bytes + counts.newest.bytes ≡ length (concat (texts_of c))) × (counts.newest.bytes ≡ length (groups_text 1 c.newest))
         × (counts.newest.groups ≡ length c.newest) × (counts.before.groups + counts.newest.groups + length c.closed ≡ length (changes_of c))) }
     ensures only { IfErr result SaysNothing }

@@ -85,14 +85,18 @@ impl<D: Disk> Node<D> {
     pub fn open(alloc: Global, journal: D, archive: D) -> Result<Node<D>, NotNode<D>>
         ensures can { IfOk result (CanFollow D.says) }
         // Of files that were written from the first change on it has all changes, and nothing is in doubt.
-        ensures node { (c : Chronicle) (files contents : Files) → D.says.seen journal files → D.says.seen archive contents → AreWritten c files →
+        ensures node { (c : Chronicle) (files contents : Files) → D.says.seen journal files →
+            D.says.seen archive contents → AreWritten c files →
             IfOk result (λ node. IsNode D.says node c) }
         ensures fresh { IfOk result (IsFresh D.says) }
         // Its rows are those that the files hold.
-        ensures holds { (files : Files) → D.says.seen journal files → IfOk result (λ node. Hold files (rows_of node.tables)) }
+        ensures holds { (files : Files) → D.says.seen journal files →
+            IfOk result (λ node. Hold files (rows_of node.tables)) }
         // It is opened as a depot's files are.
-        ensures opens { (files contents : Files) (rows : AllRows) → D.says.seen journal files → D.says.seen archive contents → HoldWhole files contents rows → OpensOrSaysNothing result }
-        ensures damaged { (files contents : Files) → D.says.seen journal files → D.says.seen archive contents → IfErr result (λ found. Tells (IsDamage files contents) found.fault) }
+        ensures opens { (files contents : Files) (rows : AllRows) → D.says.seen journal files →
+            D.says.seen archive contents → HoldWhole files contents rows → OpensOrSaysNothing result }
+        ensures damaged { (files contents : Files) → D.says.seen journal files → D.says.seen archive contents →
+            IfErr result (λ found. Tells (IsDamage files contents) found.fault) }
         ensures unmade { (files : Files) → D.says.seen journal files → IsUnmade result → length (files 0) ≡ 0 }
         ensures unopened { IfErr result (λ found. found.fault ≢ DiskFault → HasSynced D.says journal found.journal × HasSynced D.says archive found.archive) }
         ensures journal_synced { IfOk result (λ node. HasSynced D.says journal (journal_disk result)) }

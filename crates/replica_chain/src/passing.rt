@@ -41,16 +41,20 @@ fn write_next<D: Disk>(
     requires next { next ≡ generation_of_journal journal.old + 1 }
     requires last { generation_of_journal journal.old < 4095 }
     ensures generation { OnOk result (generation_of_journal journal.new ≡ next) }
-    ensures ok { (was : Committed) → Stands D.says journal.old was nothing → OnOk result (Stands D.says journal.new (with_generation was (checkpoint_text next (rows_of tables.now))) nothing) }
+    ensures ok { (was : Committed) → Stands D.says journal.old was nothing →
+        OnOk result (Stands D.says journal.new (with_generation was (checkpoint_text next (rows_of tables.now))) nothing) }
     ensures err { (was : Committed) → Stands D.says journal.old was nothing → IsErr result →
         IsStill D.says journal.old journal.new was
         ⊎ (Stands D.says journal.new was (opening (checkpoint_text next (rows_of tables.now))) × (AreRecords (puts_of (rows_of tables.now)) → IsCheckpointOf next (rows_of tables.now) (checkpoint_text next (rows_of tables.now)))) }
     // Where each row has a text, these are read again as the rows of the checkpoint.
-    ensures checkpoint { AreRecords (puts_of (rows_of tables.now)) → OnOk result (IsCheckpointOf next (rows_of tables.now) (checkpoint_text next (rows_of tables.now))) }
+    ensures checkpoint { AreRecords (puts_of (rows_of tables.now)) →
+        OnOk result (IsCheckpointOf next (rows_of tables.now) (checkpoint_text next (rows_of tables.now))) }
     ensures any_moment { (was : Committed) → Stands D.says journal.old was nothing →
         LeavesOnly D.says (disk_of journal.old) (disk_of journal.new) (HasEither was (with_generation was (checkpoint_text next (rows_of tables.now)))) }
-    ensures keeps { (older : List (List (List ℕ))) → KeepsOlder D.says journal.old older → IsErr result → KeepsOlder D.says journal.new older }
-    ensures closes { (was : Committed) (older : List (List (List ℕ))) → Stands D.says journal.old was nothing → KeepsOlder D.says journal.old older → OnOk result (KeepsOlder D.says journal.new (older ++ was.groups ∷ [])) }
+    ensures keeps { (older : List (List (List ℕ))) → KeepsOlder D.says journal.old older → IsErr result →
+        KeepsOlder D.says journal.new older }
+    ensures closes { (was : Committed) (older : List (List (List ℕ))) → Stands D.says journal.old was nothing →
+        KeepsOlder D.says journal.old older → OnOk result (KeepsOlder D.says journal.new (older ++ was.groups ∷ [])) }
     ensures only { IfErr result (λ fault. (fault ≡ faults.DiskFault) ⊎ (fault ≡ faults.Memory)) }
     ensures cause { IsCause (D.says.faults (disk_of journal.old)) (D.says.faults (disk_of journal.new)) (result ≡ Err faults.DiskFault) }
 {
@@ -73,7 +77,8 @@ impl<D: Disk> Node<D> {
         ensures archive { self.new.archive ≡ self.old.archive }
         ensures node { (c : Chronicle) → IsNode D.says self.old c → HasNoFewer D.says self.new c }
         // Where its generation is closed upstream, it stays behind that.
-        ensures behind { (c : Chronicle) (up : Upstream) → IsBehind D.says self.old c up → IsEarlier (texts_of (with_beginning c)) up.texts →
+        ensures behind { (c : Chronicle) (up : Upstream) → IsBehind D.says self.old c up →
+            IsEarlier (texts_of (with_beginning c)) up.texts →
             GoesOnBehind D.says self.old self.new c up (λ texts. texts ≡ up.texts) (λ bytes. bytes ≡ up.bytes) }
         ensures cause { IsCause (D.says.faults (disk_of self.old.link.journal)) (D.says.faults (disk_of self.new.link.journal)) (result ≡ Err faults.DiskFault) }
     {

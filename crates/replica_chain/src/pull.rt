@@ -59,12 +59,15 @@ impl<D: Disk> Node<D> {
         ensures brought { OnOk result (AreBrought D.says self.new.archive changes.now) }
         ensures others { self.new ≡ record self.old { link = self.new.link; archive = self.new.archive } }
         // The group is behind what was committed; or it isn't, or is in doubt, with its contents in the archive.
-        ensures committed { (was : Committed) → Stands D.says self.old.link.journal was nothing → OnOk result (Stands D.says self.new.link.journal (with_group was (group_text (length was.groups + 1) changes.now)) nothing) }
-        ensures uncommitted { (was : Committed) → Stands D.says self.old.link.journal was nothing → OnErr result (IsStill D.says self.old.link.journal self.new.link.journal was
+        ensures committed { (was : Committed) → Stands D.says self.old.link.journal was nothing →
+            OnOk result (Stands D.says self.new.link.journal (with_group was (group_text (length was.groups + 1) changes.now)) nothing) }
+        ensures uncommitted { (was : Committed) → Stands D.says self.old.link.journal was nothing →
+            OnErr result (IsStill D.says self.old.link.journal self.new.link.journal was
             ⊎ (Stands D.says self.new.link.journal was (group (group_text (length was.groups + 1) changes.now)) × AreBrought D.says self.new.archive changes.now)) }
         ensures any_moment { (was : Committed) → Stands D.says self.old.link.journal was nothing →
             LeavesOnly D.says (disk_of self.old.link.journal) (disk_of self.new.link.journal) (HasEither was (with_group was (group_text (length was.groups + 1) changes.now))) }
-        ensures older { (older : List (List (List ℕ))) → KeepsOlder D.says self.old.link.journal older → KeepsOlder D.says self.new.link.journal older }
+        ensures older { (older : List (List (List ℕ))) → KeepsOlder D.says self.old.link.journal older →
+            KeepsOlder D.says self.new.link.journal older }
         ensures scanned { KeepsScanned D.says self.old.link self.new.link }
         ensures absent { IfNoBytes result (λ place. (bytes : List ℕ) → C.tells contents.new bytes → IsAbsent bytes (used_of self.new.archive) (named_ends changes.now) place) }
         ensures bad { IfBadContent result (λ place. (files : Files) → D.says.seen (archive_disk_of self.new.archive) files → IsBadContent (files 0) changes.now place) }
@@ -104,7 +107,8 @@ impl<D: Disk> Node<D> {
         ensures node { (c : Chronicle) → IsNode D.says self.old c → HasNoFewer D.says self.new c }
         ensures keeps { KeepsContents D.says self.old.archive self.new.archive }
         // Where it is the next group upstream, the node stays behind that.
-        ensures behind { (c : Chronicle) (up : Upstream) → C.tells contents.old up.bytes → IsBehind D.says self.old c up →
+        ensures behind { (c : Chronicle) (up : Upstream) → C.tells contents.old up.bytes →
+            IsBehind D.says self.old c up →
             Has (text_of up.texts (length c.closed)) (record { at = self.old.at; length = end - self.old.at }) (mark open_byte ++ group_text self.old.number changes.now) →
             GoesOnBehind D.says self.old self.new c up (λ texts. texts ≡ up.texts) (C.tells contents.new) }
         ensures contents_reached { Reaches C.keeps contents.old contents.new }
@@ -152,7 +156,8 @@ impl<D: Disk> Node<D> {
         ensures keeps { KeepsContents D.says self.old.archive self.new.archive }
         // Where what the reader has stands upstream behind the node, the node stays behind that, and what is left
         // stands there behind it.
-        ensures behind { (c : Chronicle) (up : Upstream) → C.tells contents.old up.bytes → IsBehind D.says self.old c up →
+        ensures behind { (c : Chronicle) (up : Upstream) → C.tells contents.old up.bytes →
+            IsBehind D.says self.old c up →
             Has (text_of up.texts (length c.closed)) (record { at = reader.old.at; length = length reader.old.left }) reader.old.left →
             GoesOnBehind D.says self.old self.new c up (λ texts. texts ≡ up.texts) (C.tells contents.new) }
         ensures contents_reached { Reaches C.keeps contents.old contents.new }
@@ -184,7 +189,8 @@ impl<D: Disk> Node<D> {
         ensures node { (c : Chronicle) → IsNode D.says self.old c → HasNoFewer D.says self.new c }
         ensures keeps { KeepsContents D.says self.old.archive self.new.archive }
         // Where the piece stands upstream behind the rest, the node stays behind that.
-        ensures behind { (c : Chronicle) (up : Upstream) → C.tells contents.old up.bytes → IsBehind D.says self.old c up →
+        ensures behind { (c : Chronicle) (up : Upstream) → C.tells contents.old up.bytes →
+            IsBehind D.says self.old c up →
             Has (text_of up.texts (length c.closed)) (record { at = self.old.at + length self.old.rest; length = length piece.now }) piece.now →
             GoesOnBehind D.says self.old self.new c up (λ texts. texts ≡ up.texts) (C.tells contents.new) }
         ensures contents_reached { Reaches C.keeps contents.old contents.new }
@@ -220,7 +226,8 @@ impl<D: Disk> Node<D> {
         ensures stopped { IfErr result (λ fault. IsUnread self.old self.new fault ⊎ HasStopped D.says L.says (C.tells contents.new) link.new self.old self.new fault) }
         ensures node { (c : Chronicle) → IsNode D.says self.old c → HasNoFewer D.says self.new c }
         ensures keeps { KeepsContents D.says self.old.archive self.new.archive }
-        ensures behind { (c : Chronicle) (up : Upstream) → L.says.tells link.old up.texts → C.tells contents.old up.bytes → TellsGroups (L.says.tells link.new) → IsBehind D.says self.old c up →
+        ensures behind { (c : Chronicle) (up : Upstream) → L.says.tells link.old up.texts →
+            C.tells contents.old up.bytes → TellsGroups (L.says.tells link.new) → IsBehind D.says self.old c up →
             GoesOnBehind D.says self.old self.new c up (L.says.tells link.new) (C.tells contents.new) }
         ensures link_reached { Reaches L.says.keeps link.old link.new }
         ensures link_cause { IsCause (L.says.faults link.old) (L.says.faults link.new) (result ≡ Err faults.LinkFault) }
@@ -260,7 +267,8 @@ impl<D: Disk> Node<D> {
         ensures stopped { IfErr result (λ fault. IsUnread self.old self.new fault ⊎ HasStopped D.says L.says (C.tells contents.new) link.new self.old self.new fault) }
         ensures node { (c : Chronicle) → IsNode D.says self.old c → HasNoFewer D.says self.new c }
         ensures keeps { KeepsContents D.says self.old.archive self.new.archive }
-        ensures behind { (c : Chronicle) (up : Upstream) → L.says.tells link.old up.texts → C.tells contents.old up.bytes → TellsGroups (L.says.tells link.new) → IsBehind D.says self.old c up →
+        ensures behind { (c : Chronicle) (up : Upstream) → L.says.tells link.old up.texts →
+            C.tells contents.old up.bytes → TellsGroups (L.says.tells link.new) → IsBehind D.says self.old c up →
             GoesOnBehind D.says self.old self.new c up (L.says.tells link.new) (C.tells contents.new) }
         ensures link_reached { Reaches L.says.keeps link.old link.new }
         ensures link_cause { IsCause (L.says.faults link.old) (L.says.faults link.new) (result ≡ Err faults.LinkFault) }
@@ -299,7 +307,8 @@ impl<D: Disk> Node<D> {
         // Its archive keeps what was used of it, at every moment.
         ensures keeps { KeepsContents D.says self.old.archive self.new.archive }
         // Behind a depot that the link and the contents tell it stays behind that depot, at every moment.
-        ensures behind { (c : Chronicle) (up : Upstream) → L.says.tells link.old up.texts → C.tells contents.old up.bytes → TellsGroups (L.says.tells link.new) → IsBehind D.says self.old c up →
+        ensures behind { (c : Chronicle) (up : Upstream) → L.says.tells link.old up.texts →
+            C.tells contents.old up.bytes → TellsGroups (L.says.tells link.new) → IsBehind D.says self.old c up →
             GoesOnBehind D.says self.old self.new c up (L.says.tells link.new) (C.tells contents.new) }
 
         // What it follows is left as calls on it leave it.

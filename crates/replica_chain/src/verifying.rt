@@ -31,8 +31,10 @@ fn verify_row<D: Disk>(
     row: &Record,
 ) -> Result<bool, NodeFault>
     ensures live { IfOk result (λ live. live ≡ is_live row.now) }
-    ensures whole { (files : Files) → D.says.seen (disk_of archive.old) files → spot_end row.now ≤ length (files 0) → IfOk result (λ live. IsWhole (files 0) row.now) }
-    ensures bad { (files : Files) → D.says.seen (disk_of archive.old) files → spot_end row.now ≤ length (files 0) → IfBadContent result (IsBadAt (files 0) row.now) }
+    ensures whole { (files : Files) → D.says.seen (disk_of archive.old) files → spot_end row.now ≤ length (files 0) →
+        IfOk result (λ live. IsWhole (files 0) row.now) }
+    ensures bad { (files : Files) → D.says.seen (disk_of archive.old) files → spot_end row.now ≤ length (files 0) →
+        IfBadContent result (IsBadAt (files 0) row.now) }
     ensures only { IfErr result IsOfContents }
     ensures reads { OnlyReads D.says (disk_of archive.old) (disk_of archive.new) }
     ensures used { used_of archive.new ≡ used_of archive.old }
@@ -54,10 +56,13 @@ fn verify_rows<D: Disk>(
     archive: &mut Archive<D>,
     tables: &Tables,
 ) -> Result<u64, NodeFault>
-    ensures verified { (files : Files) → D.says.seen (disk_of archive.old) files → spots_end (rows_of tables.now Rev) ≤ length (files 0) →
+    ensures verified { (files : Files) → D.says.seen (disk_of archive.old) files →
+        spots_end (rows_of tables.now Rev) ≤ length (files 0) →
         IfOk result (λ count. AreWhole (files 0) (rows_of tables.now Rev)) }
     ensures count { IfOk result (λ count. count ≡ count_by is_live (rows_of tables.now Rev)) }
-    ensures bad { (files : Files) → D.says.seen (disk_of archive.old) files → spots_end (rows_of tables.now Rev) ≤ length (files 0) → IfBadContent result (IsSpotDamage (files 0) (rows_of tables.now Rev)) }
+    ensures bad { (files : Files) → D.says.seen (disk_of archive.old) files →
+        spots_end (rows_of tables.now Rev) ≤ length (files 0) →
+        IfBadContent result (IsSpotDamage (files 0) (rows_of tables.now Rev)) }
     ensures only { IfErr result IsOfContents }
     ensures reads { OnlyReads D.says (disk_of archive.old) (disk_of archive.new) }
     ensures used { used_of archive.new ≡ used_of archive.old }
@@ -78,10 +83,13 @@ impl<D: Disk> Node<D> {
     /// Reads each content once, and answers how many there are. The place of the first, by path and revision, that
     /// hasn't the digest of its revision is told.
     pub fn verify(&mut self, alloc: Global) -> Result<u64, NodeFault>
-        ensures verified { (files : Files) → D.says.seen (disk_of self.old.archive) files → spots_end (rows_of self.old.tables Rev) ≤ length (files 0) →
+        ensures verified { (files : Files) → D.says.seen (disk_of self.old.archive) files →
+            spots_end (rows_of self.old.tables Rev) ≤ length (files 0) →
             IfOk result (λ count. AreWhole (files 0) (rows_of self.old.tables Rev)) }
         ensures count { IfOk result (λ count. count ≡ count_by is_live (rows_of self.old.tables Rev)) }
-        ensures bad { (files : Files) → D.says.seen (disk_of self.old.archive) files → spots_end (rows_of self.old.tables Rev) ≤ length (files 0) → IfBadContent result (IsSpotDamage (files 0) (rows_of self.old.tables Rev)) }
+        ensures bad { (files : Files) → D.says.seen (disk_of self.old.archive) files →
+            spots_end (rows_of self.old.tables Rev) ≤ length (files 0) →
+            IfBadContent result (IsSpotDamage (files 0) (rows_of self.old.tables Rev)) }
         ensures only { IfErr result IsOfContents }
         // The archive was only read, and what the node has it still has.
         ensures others { self.new ≡ record self.old { archive = self.new.archive } }

@@ -22,10 +22,12 @@ ghost use Rattle.replica_pull.specs.declared.replica.Replica.{Replica};
 /// depot, cut, are the rows of the cut depot.
 pub fn cut_changes_make_cut_rows()
     ensures rows { (rules : List FilterRule) (whole rows : AllRows) (changes : List Change) →
-        AreCut rules whole rows → AreCut rules (changed_by whole changes) (changed_by rows (cut_changes rules changes)) }
+        AreCut rules whole rows →
+        AreCut rules (changed_by whole changes) (changed_by rows (cut_changes rules changes)) }
     ensures fit { (rules : List FilterRule) (whole rows : AllRows) (changes : List Change) →
         AreCut rules whole rows → AllFitIn whole changes → AllFitIn rows (cut_changes rules changes) }
-    ensures depot { (rules : List FilterRule) (whole rows : AllRows) (d : List Deed) → AreCut rules whole rows → IsTrue (list_all has_paths d) →
+    ensures depot { (rules : List FilterRule) (whole rows : AllRows) (d : List Deed) → AreCut rules whole rows →
+        IsTrue (list_all has_paths d) →
         ((table : TableId) → HasRows whole d table) → (table : TableId) → HasRows rows (cut rules d) table }
 {}
 
@@ -34,8 +36,10 @@ pub fn cut_changes_make_cut_rows()
 pub fn replicas_keep_cut_rows()
     ensures begun { (rules : List FilterRule) (r : Replica) → IsNew rules r → AreCut rules no_rows (rows_of r.tables) }
     ensures taken { (old new : Replica) (piece : List ℕ) (count : ℕ) (whole : AllRows) (has : HasTakenPiece old piece count new) →
-        AreCut old.filter whole (rows_of old.tables) → AreCut new.filter (changed_by whole (joined has.groups)) (rows_of new.tables) }
-    ensures passed { (old new : Replica) (whole : AllRows) → HasPassed old new → AreCut old.filter whole (rows_of old.tables) →
+        AreCut old.filter whole (rows_of old.tables) →
+        AreCut new.filter (changed_by whole (joined has.groups)) (rows_of new.tables) }
+    ensures passed { (old new : Replica) (whole : AllRows) → HasPassed old new →
+        AreCut old.filter whole (rows_of old.tables) →
         AreCut new.filter (changed_in whole (beginning (old.generation + 1))) (rows_of new.tables) }
 {}
 
@@ -45,11 +49,13 @@ pub fn replicas_keep_cut_rows()
 pub fn replicas_take_whole_groups()
     ensures begun { (rules : List FilterRule) (r : Replica) (text : List ℕ) → IsNew rules r → IsOfText r text }
     ensures passed { (old new : Replica) (text : List ℕ) → HasPassed old new → IsOfText new text }
-    ensures taken { (old new : Replica) (text buffer : List ℕ) (n count : ℕ) → IsOfText old text → n ≤ length (drop old.at text) →
+    ensures taken { (old new : Replica) (text buffer : List ℕ) (n count : ℕ) → IsOfText old text →
+        n ≤ length (drop old.at text) →
         take n buffer ≡ take n (drop old.at text) → HasTakenPiece old (take n buffer) count new → IsOfText new text }
     ensures longer { (r : Replica) (text more : List ℕ) → IsOfText r text → IsOfText r (text ++ more) }
     // Each text of an earlier journal is the front of the text that stands there now.
-    ensures earlier { (earlier now : List (List ℕ)) (generation : ℕ) → IsEarlier earlier now → (more : List ℕ) × (text_of now generation ≡ text_of earlier generation ++ more) }
+    ensures earlier { (earlier now : List (List ℕ)) (generation : ℕ) → IsEarlier earlier now →
+        (more : List ℕ) × (text_of now generation ≡ text_of earlier generation ++ more) }
 {}
 
 /// After pulls one after another, each of which left the replica as it was or did what its link answered, of the
@@ -67,12 +73,14 @@ pub fn replicas_have_a_prefix()
 /// it awaits its next one, whatever was committed since.
 pub fn journals_are_good_feeds()
     ensures { (rules : List FilterRule) (journal earlier : List (List ℕ)) (generations : List (List (List Change))) (r : Replica) (buffer : List ℕ) (n place : ℕ) →
-        HasPrefix rules journal r → IsGoodJournal journal generations → IsEarlier earlier journal → Answers earlier r.generation r.at (Bytes n) buffer → IsBadPiece r (take n buffer) place → ⊥ }
+        HasPrefix rules journal r → IsGoodJournal journal generations → IsEarlier earlier journal →
+        Answers earlier r.generation r.at (Bytes n) buffer → IsBadPiece r (take n buffer) place → ⊥ }
 {}
 
 /// Where the rows that these changes make stand for a depot, a replica's tables stand for the depot that is cut to its
 /// filter.
 pub fn replicas_stand_for_cut_depots()
     ensures { (rules : List FilterRule) (generations : List (List (List Change))) (r : Replica) (d : List Deed) →
-        HasFirst rules generations r → Stand (first_rows r.changes generations) d → Stand (rows_of r.tables) (cut rules d) }
+        HasFirst rules generations r → Stand (first_rows r.changes generations) d →
+        Stand (rows_of r.tables) (cut rules d) }
 {}

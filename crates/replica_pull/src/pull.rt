@@ -276,7 +276,8 @@ impl Replica {
         ensures stopped { IfErr result (λ fault. IsUnread fault ⊎ ((fetched : Fetched) × ((piece : List ℕ) × (IsStopped self.old fetched piece fault ×
             ((now : List (List ℕ)) → L.says.tells link.new now → (earlier : List (List ℕ)) × (IsEarlier earlier now × Answers earlier self.old.generation self.old.at fetched piece)))))) }
         ensures cause { IsCause (L.says.faults link.old) (L.says.faults link.new) (result ≡ Err faults.LinkFault) }
-        ensures grows { (before : List (List ℕ)) → L.says.tells link.old before → (now : List (List ℕ)) × (L.says.tells link.new now × ((now ≡ before) ⊎ IsEarlier before now)) }
+        ensures grows { (before : List (List ℕ)) → L.says.tells link.old before →
+            (now : List (List ℕ)) × (L.says.tells link.new now × ((now ≡ before) ⊎ IsEarlier before now)) }
         ensures reached { Reaches L.says.keeps link.old link.new }
     {
         let fetched = link.fetch(self.generation, self.at, buffer)?;
@@ -298,9 +299,12 @@ impl Replica {
             ((now : List (List ℕ)) → L.says.tells link.new now → (earlier : List (List ℕ)) × (IsEarlier earlier now × Answers earlier self.old.generation self.old.at fetched piece)))))) }
         ensures cause { IsCause (L.says.faults link.old) (L.says.faults link.new) (result ≡ Err faults.LinkFault) }
         // A master's journal is never a bad feed to a replica that has followed it.
-        ensures good { (rules : List FilterRule) (before : List (List ℕ)) → L.says.tells link.old before → HasPrefix rules before self.old →
-            ((now : List (List ℕ)) → L.says.tells link.new now → (generations : List (List (List Change))) × IsGoodJournal now generations) → IfBadFeed result (λ place. ⊥) }
-        ensures grows { (before : List (List ℕ)) → L.says.tells link.old before → (now : List (List ℕ)) × (L.says.tells link.new now × ((now ≡ before) ⊎ IsEarlier before now)) }
+        ensures good { (rules : List FilterRule) (before : List (List ℕ)) → L.says.tells link.old before →
+            HasPrefix rules before self.old →
+            ((now : List (List ℕ)) → L.says.tells link.new now → (generations : List (List (List Change))) × IsGoodJournal now generations) →
+            IfBadFeed result (λ place. ⊥) }
+        ensures grows { (before : List (List ℕ)) → L.says.tells link.old before →
+            (now : List (List ℕ)) × (L.says.tells link.new now × ((now ≡ before) ⊎ IsEarlier before now)) }
         // The link is left as calls of it leave it.
         ensures reached { Reaches L.says.keeps link.old link.new }
     {

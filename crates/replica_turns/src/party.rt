@@ -151,7 +151,8 @@ impl ReplicaParty {
     ) -> Result<Answered, AllocError>
         requires { CanTake D.says depot.old }
         ensures can { CanTake D.says depot.new }
-        ensures ran { (since : ℕ) (start : List Deed) (places : List Placed) → HasRun D.says depot.old since start places →
+        ensures ran { (since : ℕ) (start : List Deed) (places : List Placed) →
+            HasRun D.says depot.old since start places →
             HasRun D.says depot.new since start places }
         ensures tables { depot.new.tables ≡ depot.old.tables }
         ensures groups { (c : Chronicle) → HasGroups D.says depot.old.journal c → HasGroups D.says depot.new.journal c }

@@ -67,7 +67,8 @@ fn pull_into<D: Disk>(
     requires most { length buffer.old ≤ 65536 }
     requires room { IsRoom room }
     requires of_fault { of_fault ≡ printed (disk_row ∷ []) number }
-    ensures answered { (depot : AnyDepot D) → depot.journal ≡ journal.old → IfOk result (λ answered. IsPullAnswer (λ been. been ≡ depot) D.says replica.old replica.new number answered.text answered.lost) }
+    ensures answered { (depot : AnyDepot D) → depot.journal ≡ journal.old →
+        IfOk result (λ answered. IsPullAnswer (λ been. been ≡ depot) D.says replica.old replica.new number answered.text answered.lost) }
     ensures kept { OnErr result (replica.new ≡ replica.old) }
     ensures fetched { IsFetched D.says journal.old journal.new }
     ensures never_falls { D.says.faults (disk_of journal.old) ≤ D.says.faults (disk_of journal.new) }
@@ -95,7 +96,8 @@ pub(crate) fn pull<D: Disk>(
     journal: &mut Journal<D>,
     number: u32,
 ) -> Result<Answered, AllocError>
-    ensures answered { (depot : AnyDepot D) → depot.journal ≡ journal.old → IfOk result (λ answered. IsPullAnswer (λ been. been ≡ depot) D.says replica.old replica.new number answered.text answered.lost) }
+    ensures answered { (depot : AnyDepot D) → depot.journal ≡ journal.old →
+        IfOk result (λ answered. IsPullAnswer (λ been. been ≡ depot) D.says replica.old replica.new number answered.text answered.lost) }
     ensures kept { OnErr result (replica.new ≡ replica.old) }
     ensures fetched { IsFetched D.says journal.old journal.new }
     ensures never_falls { D.says.faults (disk_of journal.old) ≤ D.says.faults (disk_of journal.new) }

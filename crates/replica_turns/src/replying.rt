@@ -80,7 +80,8 @@ pub(crate) fn reply_bare(
     request: &Request,
 ) -> Result<Answered, AllocError>
     requires { reads_archive request.now ≡ false }
-    ensures told { (d : List Deed) → Stand (rows_of replica.now.tables) d → IsFormedBy request.now → IfOk result (λ answered. answered.text ≡ printed (replica_reply d request.now) request.now.number) }
+    ensures told { (d : List Deed) → Stand (rows_of replica.now.tables) d → IsFormedBy request.now →
+        IfOk result (λ answered. answered.text ≡ printed (replica_reply d request.now) request.now.number) }
     ensures kept { IfOk result (λ answered. answered.lost ≡ false) }
 {
     let reply = answer(alloc, replica, request)?;
@@ -119,7 +120,8 @@ pub(crate) fn answer_request<D: Disk>(
     depot: &mut SerialDepot<D>,
     request: &Request,
 ) -> Result<Answered, AllocError>
-    ensures answered { IsFormedBy request.now → IfOk result (λ answered. IsAnsweredBy (λ been. been ≡ depot.old) D.says replica.old replica.new request.now answered.text answered.lost) }
+    ensures answered { IsFormedBy request.now →
+        IfOk result (λ answered. IsAnsweredBy (λ been. been ≡ depot.old) D.says replica.old replica.new request.now answered.text answered.lost) }
     ensures kept { OnErr result (replica.new ≡ replica.old) }
     ensures depot { IsUnmoved D.says depot.old depot.new }
     ensures only { IfOk result (λ answered. answered.lost ≡ false → HaveStood D.says depot.old depot.new) }

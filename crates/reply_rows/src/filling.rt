@@ -10,7 +10,8 @@ use depot_rows::paths::{Sequence, Text};
 
 /// Puts the last of the contents into a row, where it waits for one.
 fn fill(row: &mut Row, contents: &mut Vec<Text>)
-    ensures { (told : AnyRow) (before : List (List ℕ)) → row.old ≡ waiting told → contents.old.items ≡ before ++ option_to_list told.content →
+    ensures { (told : AnyRow) (before : List (List ℕ)) → row.old ≡ waiting told →
+        contents.old.items ≡ before ++ option_to_list told.content →
         (row.new ≡ told) × (contents.new.items ≡ before) }
 {
     if row.content.is_some() {

@@ -48,7 +48,8 @@ fn groups_of(alloc: Global, tables: &Tables, user: &Name) -> Result<Sequence<Nam
 
 /// The rows of a sound depot list the groups of each user.
 fn rows_list_groups(tables: &Tables)
-    ensures { (d : List Deed) (user : List ℕ) → IsSound d → HasRows (rows_of tables.now) d table_ids.Group → groups_in user (rows_of tables.now table_ids.Group) ≡ groups_given d user }
+    ensures { (d : List Deed) (user : List ℕ) → IsSound d → HasRows (rows_of tables.now) d table_ids.Group →
+        groups_in user (rows_of tables.now table_ids.Group) ≡ groups_given d user }
 {
     let version = tables.version(TableId::Group);
     // the rows of a version are of its table, their keys rising

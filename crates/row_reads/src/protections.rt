@@ -19,7 +19,8 @@ use std::alloc::{AllocError, Global};
 
 /// The rows of a sound depot spell its lines.
 fn rows_spell_lines(tables: &Tables)
-    ensures { (d : List Deed) → IsSound d → HasRows (rows_of tables.now) d table_ids.Protect → protects_told (rows_of tables.now table_ids.Protect) ≡ protects_in d }
+    ensures { (d : List Deed) → IsSound d → HasRows (rows_of tables.now) d table_ids.Protect →
+        protects_told (rows_of tables.now table_ids.Protect) ≡ protects_in d }
 {
     let version = tables.version(TableId::Protect);
     // the rows of a version are of its table, their keys rising
@@ -30,7 +31,8 @@ fn rows_spell_lines(tables: &Tables)
 /// version was made: the call takes no memory.
 pub fn protects_of(tables: &Tables) -> &Protects
     ensures rows { result.now ≡ protects_told (rows_of tables.now table_ids.Protect) }
-    ensures depot { (d : List Deed) → IsSound d → HasRows (rows_of tables.now) d table_ids.Protect → result.now ≡ protects_in d }
+    ensures depot { (d : List Deed) → IsSound d → HasRows (rows_of tables.now) d table_ids.Protect →
+        result.now ≡ protects_in d }
 {
     rows_spell_lines(tables);
     tables.version(TableId::Protect).protects()
@@ -38,7 +40,8 @@ pub fn protects_of(tables: &Tables) -> &Protects
 
 /// The rows of a sound depot have the words of its lines.
 fn rows_keep_lines(tables: &Tables)
-    ensures { (d : List Deed) → IsSound d → HasRows (rows_of tables.now) d table_ids.Protect → texts_in (rows_of tables.now table_ids.Protect) ≡ map kept_line (guard_lines d) }
+    ensures { (d : List Deed) → IsSound d → HasRows (rows_of tables.now) d table_ids.Protect →
+        texts_in (rows_of tables.now table_ids.Protect) ≡ map kept_line (guard_lines d) }
 {
     let version = tables.version(TableId::Protect);
     // the rows of a version are of its table, their keys rising

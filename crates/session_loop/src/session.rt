@@ -49,9 +49,11 @@ fn take_command<T: Taker, G: Gate>(
 ) -> Result<Text, AllocError>
     requires { T.can_take taker.old }
     ensures can { T.can_take taker.new }
-    ensures ok { (since : ℕ) (start : List Deed) (places : List Placed) → T.has_run taker.old since start places → AreProper asked.command asked.contents →
+    ensures ok { (since : ℕ) (start : List Deed) (places : List Placed) → T.has_run taker.old since start places →
+        AreProper asked.command asked.contents →
         IfOk result (IsTaken (λ moment. moment ≡ place.moment) (T.has_run taker.new since) place.party place.number caller.now asked start places order.old.items order.new.items) }
-    ensures nothing { (since : ℕ) (start : List Deed) (places : List Placed) → T.has_run taker.old since start places → OnErr result (T.has_run taker.new since start places) }
+    ensures nothing { (since : ℕ) (start : List Deed) (places : List Placed) → T.has_run taker.old since start places →
+        OnErr result (T.has_run taker.new since start places) }
     ensures same_order { OnErr result (order.new.items ≡ order.old.items) }
     ensures stand { StandWithoutFaults (T.faults taker.old) (T.faults taker.new) (T.content_faults taker.old) (T.content_faults taker.new) order.old.items order.new.items }
     ensures cause { AreCaused (T.faults taker.old) (T.faults taker.new) (T.content_faults taker.old) (T.content_faults taker.new) order.old.items order.new.items }
@@ -75,7 +77,8 @@ fn answer<T: Taker, K: Sink, G: Gate>(
 ) -> Result<(), GiveFault>
     requires { T.can_take taker.old }
     ensures can { T.can_take taker.new }
-    ensures answered { (since : ℕ) (start : List Deed) (places : List Placed) → T.has_run taker.old since start places → AreProper asked.command asked.contents →
+    ensures answered { (since : ℕ) (start : List Deed) (places : List Placed) → T.has_run taker.old since start places →
+        AreProper asked.command asked.contents →
         IsAnswered (λ moment. moment ≡ place.moment) (T.has_run taker.new since) place.party place.number caller.now asked start places order.old.items order.new.items (K.says.given sink.old) (K.says.given sink.new) result }
     ensures stand { StandWithoutFaults (T.faults taker.old) (T.faults taker.new) (T.content_faults taker.old) (T.content_faults taker.new) order.old.items order.new.items }
     ensures places { AreCaused (T.faults taker.old) (T.faults taker.new) (T.content_faults taker.old) (T.content_faults taker.new) order.old.items order.new.items }
@@ -107,9 +110,13 @@ pub fn run_session<T: Taker, K: Sink, C: Clock, G: Gate>(
     ensures can { T.can_take taker.new }
 
     // From each depot from which the taker begins, where the commands are well-formed.
-    ensures served { (sessions : List (Option Session)) (since : ℕ) (start : List Deed) → slice_get sessions (party - 1) ≡ Some (Some session) → AreWellFormed session.commands → T.has_run taker.old since start [] →
+    ensures served { (sessions : List (Option Session)) (since : ℕ) (start : List Deed) →
+        slice_get sessions (party - 1) ≡ Some (Some session) → AreWellFormed session.commands →
+        T.has_run taker.old since start [] →
         IsServed (C.says.may_give clock.now) sessions start party result.commands result.failed (K.says.given sink.old) (K.says.given sink.new) order.new.items }
-    ensures ran { (sessions : List (Option Session)) (since : ℕ) (start : List Deed) → slice_get sessions (party - 1) ≡ Some (Some session) → AreWellFormed session.commands → T.has_run taker.old since start [] →
+    ensures ran { (sessions : List (Option Session)) (since : ℕ) (start : List Deed) →
+        slice_get sessions (party - 1) ≡ Some (Some session) → AreWellFormed session.commands →
+        T.has_run taker.old since start [] →
         T.has_run taker.new since start (map (placed sessions) order.new.items) }
 
     ensures all { result.failed ≡ false → result.commands ≡ length session.commands }

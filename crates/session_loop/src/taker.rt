@@ -43,12 +43,19 @@ pub trait Taker {
     ) -> Result<Answer, AllocError>
         requires { can_take self.old }
         ensures can { can_take self.new }
-        ensures ran { (since : ℕ) (start : List Deed) (places : List Placed) → has_run self.old since start places → IsProper request → IfOk result (λ answer. has_run self.new since start (with_place places request answer)) }
-        ensures answers { (since : ℕ) (start : List Deed) (places : List Placed) → has_run self.old since start places → IsProper request → IfOk result (Answers start places request) }
-        ensures nothing { (since : ℕ) (start : List Deed) (places : List Placed) → has_run self.old since start places → OnErr result (has_run self.new since start places) }
+        ensures ran { (since : ℕ) (start : List Deed) (places : List Placed) → has_run self.old since start places →
+            IsProper request → IfOk result (λ answer. has_run self.new since start (with_place places request answer)) }
+        ensures answers { (since : ℕ) (start : List Deed) (places : List Placed) → has_run self.old since start places →
+            IsProper request → IfOk result (Answers start places request) }
+        ensures nothing { (since : ℕ) (start : List Deed) (places : List Placed) → has_run self.old since start places →
+            OnErr result (has_run self.new since start places) }
         // A command after which no row differs commits nothing, and calls nothing where it prints no content.
-        ensures no_write { (since : ℕ) (start : List Deed) (places : List Placed) → has_run self.old since start places → IsProper request → ChangesNoRow (taken step start places) request → unwritten self.old self.new }
-        ensures no_call { (since : ℕ) (start : List Deed) (places : List Placed) → has_run self.old since start places → IsProper request → ChangesNoRow (taken step start places) request → PrintsNoContent (taken step start places) request → untouched self.old self.new }
+        ensures no_write { (since : ℕ) (start : List Deed) (places : List Placed) →
+            has_run self.old since start places → IsProper request → ChangesNoRow (taken step start places) request →
+            unwritten self.old self.new }
+        ensures no_call { (since : ℕ) (start : List Deed) (places : List Placed) → has_run self.old since start places →
+            IsProper request → ChangesNoRow (taken step start places) request →
+            PrintsNoContent (taken step start places) request → untouched self.old self.new }
         ensures never_falls { faults self.old ≤ faults self.new }
         ensures never_falls_contents { content_faults self.old ≤ content_faults self.new }
         // Where the place isn't that of a fault, and where memory was wanting, nothing that was called failed.

@@ -88,10 +88,12 @@ fn answer_left<K: Sink, C: Clock>(
     ensures as_many { length sinks.new.items ≡ length runs.new.items }
     ensures count { length sinks.new.items ≡ length sinks.old.items }
     ensures none { AnswersNone (C.says.may_give clock.now) K.says runs.old.items runs.new.items sinks.old.items sinks.new.items }
-    ensures within { (before : List K) → AreWithin K.says totals.now runs.old.items before sinks.old.items → AreWithin K.says totals.now runs.new.items before sinks.new.items }
+    ensures within { (before : List K) → AreWithin K.says totals.now runs.old.items before sinks.old.items →
+        AreWithin K.says totals.now runs.new.items before sinks.new.items }
     ensures done { IsDoneAt runs.new.items totals.now at }
     ensures others { (j : ℕ) → j ≢ at → IsSameAt j runs.old.items runs.new.items sinks.old.items sinks.new.items }
-    ensures same { IsDoneAt runs.old.items totals.now at → IsSameAt at runs.old.items runs.new.items sinks.old.items sinks.new.items }
+    ensures same { IsDoneAt runs.old.items totals.now at →
+        IsSameAt at runs.old.items runs.new.items sinks.old.items sinks.new.items }
 {
     'left: while has_left(runs, totals, at) {
         answer_party(at, Err(AllocError), runs, sinks);
@@ -107,9 +109,11 @@ pub(crate) fn answer_rest<K: Sink, C: Clock>(
 )
     requires as_many { length sinks.old.items ≡ length runs.old.items }
     ensures none { AnswersNone (C.says.may_give clock.now) K.says runs.old.items runs.new.items sinks.old.items sinks.new.items }
-    ensures within { (before : List K) → AreWithin K.says totals.now runs.old.items before sinks.old.items → AreWithin K.says totals.now runs.new.items before sinks.new.items }
+    ensures within { (before : List K) → AreWithin K.says totals.now runs.old.items before sinks.old.items →
+        AreWithin K.says totals.now runs.new.items before sinks.new.items }
     ensures done { AreDone runs.new.items totals.now }
-    ensures same { (i : ℕ) → IsDoneAt runs.old.items totals.now i → IsSameAt i runs.old.items runs.new.items sinks.old.items sinks.new.items }
+    ensures same { (i : ℕ) → IsDoneAt runs.old.items totals.now i →
+        IsSameAt i runs.old.items runs.new.items sinks.old.items sinks.new.items }
 {
     for at in 0..sinks.len() {
         answer_left(at, clock, totals, runs, sinks);

@@ -52,7 +52,8 @@ pub(crate) fn place_commit<D: Disk, G: Gate>(
 ) -> Result<Answer, AllocError>
     requires can { CanTake D.says depot.old }
     ensures can { CanTake D.says depot.new }
-    ensures placed { (since : ℕ) (start : List Deed) (places : List Placed) (s : State) (request : AnyRequest) → HasRun D.says depot.old since start places →
+    ensures placed { (since : ℕ) (start : List Deed) (places : List Placed) (s : State) (request : AnyRequest) →
+        HasRun D.says depot.old since start places →
         (due : IsDue start s core.now depot.old party request outcome) →
         IfOk result (IsPlaced D.says since start places request due.found depot.old depot.new) }
     ensures found { IfOk result (λ answer. (found : AnyOutcome) × (outcome ≡ Ok found)) }
@@ -105,7 +106,8 @@ pub(crate) fn how_of(answer: &Result<Answer, AllocError>) -> Finish
 /// Has a party whose sink failed take no further command.
 pub(crate) fn stop_if(core: &mut LockCore, party: u32, failed: bool)
     ensures tables { core.new.tables ≡ core.old.tables }
-    ensures shows { (start : List Deed) (s : State) → Shows start core.old s → Shows start core.new (ended s party failed) }
+    ensures shows { (start : List Deed) (s : State) → Shows start core.old s →
+        Shows start core.new (ended s party failed) }
 {
     if !failed {
         return;

@@ -99,13 +99,15 @@ impl Replicas {
     ) -> Result<Text, AllocError>
         requires can { CanTake D.says depot.old }
         ensures can { CanTake D.says depot.new }
-        ensures ran { (since : ℕ) (start : List Deed) (places : List Placed) → HasRun D.says depot.old since start places →
+        ensures ran { (since : ℕ) (start : List Deed) (places : List Placed) →
+            HasRun D.says depot.old since start places →
             HasRun D.says depot.new since start places }
         ensures tables { depot.new.tables ≡ depot.old.tables }
         ensures groups { (c : Chronicle) → HasGroups D.says depot.old.journal c → HasGroups D.says depot.new.journal c }
         ensures stored { KeepsStored D.says depot.old.archive depot.new.archive }
         ensures others { self.new.others ≡ self.old.others }
-        ensures stepped { (p : AnyParty) → slice_get self.old.parties.items at ≡ Some (Some p) → 0 < length p.left.items → IsStepped D.says depot.old depot.new at p self.old self.new (text_of result) }
+        ensures stepped { (p : AnyParty) → slice_get self.old.parties.items at ≡ Some (Some p) →
+            0 < length p.left.items → IsStepped D.says depot.old depot.new at p self.old self.new (text_of result) }
         ensures never_falls { D.says.faults (disk_of depot.old.journal) ≤ D.says.faults (disk_of depot.new.journal) }
         ensures never_falls_contents { D.says.faults (archive_disk_of depot.old.archive) ≤ D.says.faults (archive_disk_of depot.new.archive) }
         ensures told { self.new.lost ≡ false → (self.old.lost ≡ false) × HaveStood D.says depot.old depot.new }

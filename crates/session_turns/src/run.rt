@@ -75,17 +75,22 @@ pub fn run_sessions<D: Disk, K: Sink + Drop, C: Clock, G: Gate>(
     ensures unrun { IfErr result (λ unrun. (unrun.depot ≡ depot) × (unrun.sinks ≡ sinks)) }
 
     // From each depot from which the depot in files begins, where the commands are well-formed.
-    ensures served { (since : ℕ) (start : List Deed) → All (λ session. AreWellFormed (commands_of session)) sessions.items → HasRun D.says depot since start [] →
+    ensures served { (since : ℕ) (start : List Deed) →
+        All (λ session. AreWellFormed (commands_of session)) sessions.items → HasRun D.says depot since start [] →
         IfOk result (λ ran. AreServed (C.says.may_give clock.now) sessions.items replicas.items start ran.runs.items (map K.says.given sinks.items) (map K.says.given ran.sinks.items) ran.order.items) }
     // The order is that of the machine with the turns that the seed draws, and each command of a replica is answered
     // over as many places as it had at its turn. Fault places and replies of a failed disk are together at most as many
     // as the counts of the two disks rose.
-    ensures counted { (since : ℕ) (start : List Deed) → All (λ session. AreWellFormed (commands_of session)) sessions.items → HasRun D.says depot since start [] →
+    ensures counted { (since : ℕ) (start : List Deed) →
+        All (λ session. AreWellFormed (commands_of session)) sessions.items → HasRun D.says depot since start [] →
         IfOk result (λ ran. AreCounted D.says (C.says.may_give clock.now) seed depot sessions.items replicas.items since start ran.order.items ran.runs.items ran.lost (λ failures. HaveRisenBy failures (D.says.faults (disk_of depot.journal)) (D.says.faults (disk_of ran.depot.journal)) (D.says.faults (archive_disk_of depot.archive)) (D.says.faults (archive_disk_of ran.depot.archive))) (map K.says.given sinks.items) (map K.says.given ran.sinks.items)) }
     // From a depot that they follow on, the depot at the end is one that they follow after the places.
-    ensures master { (past : Past) (since : ℕ) (start : List Deed) (c : Chronicle) → All (λ session. AreWellFormed (commands_of session)) sessions.items → HasRun D.says depot since start [] → IsMaster D.says past start [] depot c →
+    ensures master { (past : Past) (since : ℕ) (start : List Deed) (c : Chronicle) →
+        All (λ session. AreWellFormed (commands_of session)) sessions.items → HasRun D.says depot since start [] →
+        IsMaster D.says past start [] depot c →
         IfOk result (λ ran. CanBeFollowed D.says past start (map (placed sessions.items) ran.order.items) ran.depot) }
-    ensures ran { (since : ℕ) (start : List Deed) → All (λ session. AreWellFormed (commands_of session)) sessions.items → HasRun D.says depot since start [] →
+    ensures ran { (since : ℕ) (start : List Deed) →
+        All (λ session. AreWellFormed (commands_of session)) sessions.items → HasRun D.says depot since start [] →
         IfOk result (λ ran. HasRun D.says ran.depot since start (map (placed sessions.items) ran.order.items)) }
 
     ensures ends { IfOk result (λ ran. AreEnds K.says sessions.items replicas.items ran.runs.items sinks.items ran.sinks.items) }

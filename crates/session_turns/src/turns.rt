@@ -51,7 +51,8 @@ impl<D: Disk, K: Sink> Turns<D, K> {
     ) -> bool
         requires can { CanGoOn D.says self.old }
         ensures can { CanGoOn D.says self.new }
-        ensures turn { (scene : Scene) (s : State) → IsRunning D.says K.says (C.says.may_give clock.now) scene s self.old →
+        ensures turn { (scene : Scene) (s : State) →
+            IsRunning D.says K.says (C.says.may_give clock.now) scene s self.old →
             is_enabled s party ≡ true → IsAtHand scene.start s self.old.core party outcome →
             (result ≡ true) × TakesTurn D.says K.says (C.says.may_give clock.now) scene s party self.old self.new }
         ensures replicas { self.new.replicas ≡ self.old.replicas }
@@ -90,7 +91,8 @@ impl<D: Disk, K: Sink> Turns<D, K> {
     ) -> bool
         requires can { CanGoOn D.says self.old }
         ensures can { CanGoOn D.says self.new }
-        ensures turn { (scene : Scene) (s : State) → IsRunning D.says K.says (C.says.may_give clock.now) scene s self.old → is_enabled s party ≡ true →
+        ensures turn { (scene : Scene) (s : State) →
+            IsRunning D.says K.says (C.says.may_give clock.now) scene s self.old → is_enabled s party ≡ true →
             (result ≡ true) × TakesTurn D.says K.says (C.says.may_give clock.now) scene s party self.old self.new }
         ensures replicas { self.new.replicas ≡ self.old.replicas }
         ensures within { StayWithin K.says self.old self.new }
@@ -110,7 +112,8 @@ impl<D: Disk, K: Sink> Turns<D, K> {
     fn take_replica_turn<C: Clock>(&mut self, alloc: Global, party: u32, clock: &C) -> bool
         requires can { CanGoOn D.says self.old }
         ensures can { CanGoOn D.says self.new }
-        ensures turn { (scene : Scene) (p : Progress) → AreGoing D.says K.says (C.says.may_give clock.now) scene p self.old → has_other p.others party ≡ true →
+        ensures turn { (scene : Scene) (p : Progress) →
+            AreGoing D.says K.says (C.says.may_give clock.now) scene p self.old → has_other p.others party ≡ true →
             (result ≡ true) × Advances D.says K.says (C.says.may_give clock.now) scene p party self.old self.new }
         ensures within { StayWithin K.says self.old self.new }
         ensures told { HaveTold D.says self.old self.new }
@@ -132,7 +135,8 @@ impl<D: Disk, K: Sink> Turns<D, K> {
     fn advance<C: Clock, G: Gate>(&mut self, alloc: Global, party: u32, clock: &C, gate: &G) -> bool
         requires can { CanGoOn D.says self.old }
         ensures can { CanGoOn D.says self.new }
-        ensures turn { (scene : Scene) (p : Progress) → AreGoing D.says K.says (C.says.may_give clock.now) scene p self.old →
+        ensures turn { (scene : Scene) (p : Progress) →
+            AreGoing D.says K.says (C.says.may_give clock.now) scene p self.old →
             may_go_on p.machine p.others party ≡ true →
             (result ≡ true) × Advances D.says K.says (C.says.may_give clock.now) scene p party self.old self.new }
         ensures within { StayWithin K.says self.old self.new }
@@ -158,7 +162,8 @@ impl<D: Disk, K: Sink> Turns<D, K> {
     )
         requires can { CanGoOn D.says self.old }
         ensures can { CanGoOn D.says self.new }
-        ensures turns { (scene : Scene) (p : Progress) → AreGoing D.says K.says (C.says.may_give clock.now) scene p self.old →
+        ensures turns { (scene : Scene) (p : Progress) →
+            AreGoing D.says K.says (C.says.may_give clock.now) scene p self.old →
             length scene.sessions < 2 ^ 32 → all_left p < 2 ^ 64 →
             TakesTurns D.says K.says (C.says.may_give clock.now) scene seed p self.old self.new }
         ensures within { StayWithin K.says self.old self.new }

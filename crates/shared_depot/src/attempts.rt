@@ -233,7 +233,8 @@ impl<D: Disk, N: Serving> SharedDepot<D, N> {
     ) -> Result<Option<Quiet<'a, D, N>>, AllocError>
         requires told { IsToldOver N.rows N.end whole needs.now gathered archive told }
         requires unwritten { IsUnwritten told }
-        ensures quiet { (request : AnyRequest) → IsFoundFor N.end N.images N.begins needs.now gathered.entry archive.entry request told →
+        ensures quiet { (request : AnyRequest) →
+            IsFoundFor N.end N.images N.begins needs.now gathered.entry archive.entry request told →
             IfOk result (λ found. IfSome found (IsQuietFor N.rows N.end N.images N.begins request)) }
         ensures always { IfOk result (λ found. IsTrue whole → IsSome found) }
     {
@@ -291,7 +292,8 @@ impl<D: Disk, N: Serving> SharedDepot<D, N> {
     ) -> Result<Option<Writing<'a, D, N>>, AllocError>
         requires told { IsToldOver N.rows N.end whole needs.now gathered archive told }
         requires some { told.changes ≢ [] }
-        ensures writing { (request : AnyRequest) → IsFoundFor N.end N.images N.begins needs.now gathered.entry archive.entry request told →
+        ensures writing { (request : AnyRequest) →
+            IsFoundFor N.end N.images N.begins needs.now gathered.entry archive.entry request told →
             IfOk result (λ found. IfSome found (IsWritingFor N.rows N.end N.images N.begins request)) }
         ensures always { IfOk result (λ found. IsTrue whole → IsSome found) }
     {
@@ -336,7 +338,8 @@ impl<D: Disk, N: Serving> SharedDepot<D, N> {
         told: Told,
     ) -> Result<Option<Ready<'a, D, N>>, AllocError>
         requires { IsToldOver N.rows N.end whole needs.now gathered archive told }
-        ensures ready { (request : AnyRequest) → IsFoundFor N.end N.images N.begins needs.now gathered.entry archive.entry request told →
+        ensures ready { (request : AnyRequest) →
+            IsFoundFor N.end N.images N.begins needs.now gathered.entry archive.entry request told →
             IfOk result (λ found. IfSome found (IsReadyFor N.rows N.end N.images N.begins request)) }
         ensures always { IfOk result (λ found. IsTrue whole → IsSome found) }
     {

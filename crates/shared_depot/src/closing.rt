@@ -138,7 +138,8 @@ impl<D: Disk, N: Serving> OpenedDepot<D, N> {
         // Each place is of a party whose lane is one of the run's.
         ensures parties { AllByRecursion (λ taken. IsParty N.run taken.request.party) self.order }
         ensures can { CanTake D.says result.depot }
-        ensures ran { (since : ℕ) (start : List Deed) → N.begins since start → HasRun D.says result.depot since start (map placed_of self.order) }
+        ensures ran { (since : ℕ) (start : List Deed) → N.begins since start →
+            HasRun D.says result.depot since start (map placed_of self.order) }
         // From each depot that replicas follow on, they follow it after the order.
         ensures followed { IsFollowed D.says N.begins N.masters self.order result.depot }
         ensures stored { HasAllStored D.says N.end N.images N.begins self.order result.depot.archive }
@@ -147,7 +148,8 @@ impl<D: Disk, N: Serving> OpenedDepot<D, N> {
         // The fault places and the marks together are at most as many as the counts of the two disks rose. Where there
         // is neither, the counts stand.
         ensures failures { HaveRisenBy (fault_count result.order.items + length self.marks) N.faults (D.says.faults (disk_of result.depot.journal)) N.content_faults (D.says.faults (archive_disk_of result.depot.archive)) }
-        ensures stand { length self.marks ≡ 0 → StandWithoutFaults N.faults (D.says.faults (disk_of result.depot.journal)) N.content_faults (D.says.faults (archive_disk_of result.depot.archive)) [] result.order.items }
+        ensures stand { length self.marks ≡ 0 →
+            StandWithoutFaults N.faults (D.says.faults (disk_of result.depot.journal)) N.content_faults (D.says.faults (archive_disk_of result.depot.archive)) [] result.order.items }
         ensures never_falls { N.faults ≤ D.says.faults (disk_of result.depot.journal) }
         ensures never_falls_contents { N.content_faults ≤ D.says.faults (archive_disk_of result.depot.archive) }
     {

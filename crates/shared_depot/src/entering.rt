@@ -46,10 +46,13 @@ impl<D: Disk, N: Serving> CommonDepot<D, N> {
         requires fits { A.is_held ≡ true → taken.end ≤ 2 ^ 63 - 1 }
         requires prepared { taken.fault ≡ false → IsPrepared N.rows taken.changes prepared.items }
         requires unchanged { taken.fault ≡ true → taken.changes ≡ [] }
-        requires shown { taken.fault ≡ false → (table : TableId) → rows_of shown table ≡ changed_by (rows_after N.rows lane.old) taken.changes table }
+        requires shown { taken.fault ≡ false → (table : TableId) →
+            rows_of shown table ≡ changed_by (rows_after N.rows lane.old) taken.changes table }
         // Behind each order that goes on quietly some tables and journal have run it with this place.
-        requires ran { (order : List AnyTaken) (lanes : ℕ) → GoesOnQuietly D.says N.rows N.end N.images N.begins lane.old order →
-            has_lane lanes archive_lane ≡ A.is_held → IsEntered N.rows N.end order (record taken { lanes = lanes }) (if A.is_held then taken.end else end_after N.end order) →
+        requires ran { (order : List AnyTaken) (lanes : ℕ) →
+            GoesOnQuietly D.says N.rows N.end N.images N.begins lane.old order →
+            has_lane lanes archive_lane ≡ A.is_held →
+            IsEntered N.rows N.end order (record taken { lanes = lanes }) (if A.is_held then taken.end else end_after N.end order) →
             WasRun D.says N.rows N.end N.images N.begins N.masters (order ++ record taken { lanes = lanes } ∷ []) }
         ensures placed { TakesPlace self.old self.new pass.old pass.new (record taken { lanes = result }) }
         ensures on { GoesOnQuietly D.says N.rows N.end N.images N.begins lane.old self.old }

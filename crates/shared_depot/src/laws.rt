@@ -24,9 +24,12 @@ pub fn depots_are_followed<D: Disk, N: Serving>()
     // which the contents of the places were stored that the link's party knew, as they are in the depot's once all
     // threads have ended.
     ensures stands { (order : List AnyTaken) (texts : List (List ℕ)) (archive : AnyArchive D) (rules : List FilterRule) (moments : List Moment) (r : AnyReplica) →
-        (told : TellsJournal D.says N.end N.images N.begins N.masters order texts) → HasAllStored D.says N.end N.images N.begins order archive → HasFollowed rules texts r moments →
+        (told : TellsJournal D.says N.end N.images N.begins N.masters order texts) →
+        HasAllStored D.says N.end N.images N.begins order archive → HasFollowed rules texts r moments →
         (d : List Deed) × IsNth told.past told.start (map placed_of order) r.changes d × Stand (rows_of r.tables) (cut rules d) }
     // Where the changes before the run fit, and the journal is below 2^63 bytes, it is no bad feed.
-    ensures good { (order : List AnyTaken) (texts : List (List ℕ)) → (told : TellsJournal D.says N.end N.images N.begins N.masters order texts) → AllFit told.past.journal → bytes_of texts < 2 ^ 63 →
+    ensures good { (order : List AnyTaken) (texts : List (List ℕ)) →
+        (told : TellsJournal D.says N.end N.images N.begins N.masters order texts) → AllFit told.past.journal →
+        bytes_of texts < 2 ^ 63 →
         IsGoodJournal texts (generations_of (chronicle_after told.first order)) }
 {}

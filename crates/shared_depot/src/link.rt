@@ -77,7 +77,9 @@ impl<D: Disk, N: Serving> WrittenJournal<D, N> {
         buffer: &mut [u8],
     ) -> Result<Fetched, Failed>
         requires room { 0 < length buffer.old }
-        ensures answers { (texts : List (List ℕ)) → TellsJournal D.says N.end N.images N.begins N.masters pass.new.list texts → IfOk result (λ fetched. Answers texts generation at fetched buffer.new) }
+        ensures answers { (texts : List (List ℕ)) →
+            TellsJournal D.says N.end N.images N.begins N.masters pass.new.list texts →
+            IfOk result (λ fetched. Answers texts generation at fetched buffer.new) }
         ensures fits { IfOk result (λ fetched. Fits fetched (length buffer.old)) }
         ensures tells { TellsAll D.says N.end N.images N.begins N.masters pass.new.list }
         ensures heard { HasHeardPlaces pass.old pass.new }

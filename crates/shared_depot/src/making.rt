@@ -265,7 +265,8 @@ impl<D: Disk, N: Serving> SharedDepot<D, N> {
         requires images { (files : Files) → N.images files ↔ D.says.may_leave (archive_disk_of depot.archive) files }
         requires can { CanTake D.says depot }
         requires begins { (since : ℕ) (start : List Deed) → N.begins since start → HasRun D.says depot since start [] }
-        requires masters { (past : Past) (start : List Deed) (c : Chronicle) → N.masters past start c → IsMaster D.says past start [] depot c }
+        requires masters { (past : Past) (start : List Deed) (c : Chronicle) → N.masters past start c →
+            IsMaster D.says past start [] depot c }
         requires faults { N.faults ≡ D.says.faults (disk_of depot.journal) }
         requires content_faults { N.content_faults ≡ D.says.faults (archive_disk_of depot.archive) }
         ensures passes { IfOk result (λ shared. shared.passes.items ≡ fresh_passes (length places.now)) }

@@ -36,9 +36,11 @@ pub fn forms_that_are_saved_keep_depots_sound()
 /// Saving and deleting pending changes leaves a sound depot sound, where the caller has names, and a change with
 /// shelved files or fixes isn't deleted. So does a checkpoint.
 pub fn steps_on_changes_keep_depots_sound()
-    ensures save { (d : List Deed) (request : Asked) (input : List ℕ) → IsSound d → IsTrue (is_name request.caller.user) →
+    ensures save { (d : List Deed) (request : Asked) (input : List ℕ) → IsSound d →
+        IsTrue (is_name request.caller.user) →
         IsTrue (is_name request.caller.client) → IsSound (after d (change_save d request input).deeds) }
-    ensures delete { (d : List Deed) (caller : Caller) (n : ℕ) → IsSound d → is_shelved d n ≡ false → is_fixing d n ≡ false →
+    ensures delete { (d : List Deed) (caller : Caller) (n : ℕ) → IsSound d → is_shelved d n ≡ false →
+        is_fixing d n ≡ false →
         IsSound (after d (change_delete d caller n).deeds) }
     ensures checkpoint { (d : List Deed) → IsSound d → IsSound (after d (checkpoint d).deeds) }
 {}
@@ -46,15 +48,20 @@ pub fn steps_on_changes_keep_depots_sound()
 /// Putting fixes on a change and taking them off, shelving files, taking shelved files away and opening them leaves a
 /// sound depot sound.
 pub fn steps_on_shelves_and_fixes_keep_depots_sound()
-    ensures fix { (d : List Deed) (caller : Caller) (n : ℕ) (names : List (List ℕ)) → IsSound d → IsTrue (is_name caller.user) →
+    ensures fix { (d : List Deed) (caller : Caller) (n : ℕ) (names : List (List ℕ)) → IsSound d →
+        IsTrue (is_name caller.user) →
         IsSound (after d (fix_step d caller n names).deeds) }
-    ensures unfix { (d : List Deed) (n : ℕ) (names : List (List ℕ)) → IsSound d → IsSound (after d (fix_delete d n names).deeds) }
-    ensures shelve { (d : List Deed) (request : Asked) (n : ℕ) (replaces : Bool) (files : List FileArgument) → IsSound d →
-        IsTrue (list_all fits_content request.contents) → IsTrue (is_name request.caller.user) → IsTrue (is_name request.caller.client) →
+    ensures unfix { (d : List Deed) (n : ℕ) (names : List (List ℕ)) → IsSound d →
+        IsSound (after d (fix_delete d n names).deeds) }
+    ensures shelve { (d : List Deed) (request : Asked) (n : ℕ) (replaces : Bool) (files : List FileArgument) →
+        IsSound d →
+        IsTrue (list_all fits_content request.contents) → IsTrue (is_name request.caller.user) →
+        IsTrue (is_name request.caller.client) →
         IsSound (after d (shelve_step d request n replaces files).deeds) }
     ensures take_away { (d : List Deed) (caller : Caller) (n : ℕ) (files : List FileArgument) → IsSound d →
         IsSound (after d (shelve_delete d caller n files).deeds) }
-    ensures unshelve { (d : List Deed) (caller : Caller) (n : ℕ) (change : Option ℕ) (files : List FileArgument) → IsSound d →
+    ensures unshelve { (d : List Deed) (caller : Caller) (n : ℕ) (change : Option ℕ) (files : List FileArgument) →
+        IsSound d →
         IsTrue (is_client d caller.client) → IsSound (after d (unshelve d caller n change files).deeds) }
 {}
 

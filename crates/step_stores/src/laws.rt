@@ -10,5 +10,6 @@ ghost use Rattle.depot_rows.specs.table_changes.Changed.{AllRows};
 
 /// A step that stores nothing is one that stores what it has to, where the model's submits no change.
 pub fn steps_without_a_submit_store_nothing()
-    ensures { (all : AllRows) (from : ℕ) (d : List Deed) (told : ModelStep) (step : Step) → IsMade all d d told step → NothingLands told.deeds → IsStoring all from d told step }
+    ensures { (all : AllRows) (from : ℕ) (d : List Deed) (told : ModelStep) (step : Step) → IsMade all d d told step →
+        NothingLands told.deeds → IsStoring all from d told step }
 {}

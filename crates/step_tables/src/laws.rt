@@ -37,7 +37,8 @@ pub fn steps_change_rows_of_written_tables_alone()
 pub fn steps_that_write_no_revisions_land_nothing()
     ensures landings { (d : List Deed) (request : Request) (command : Command) → request.command ≡ Ok command →
         IsFalse (writes command Rev) → landings (after d (step d request).deeds) ≡ landings d }
-    ensures revisions { (d : List Deed) (request : Request) (command : Command) (path : List ℕ) → request.command ≡ Ok command →
+    ensures revisions { (d : List Deed) (request : Request) (command : Command) (path : List ℕ) →
+        request.command ≡ Ok command →
         IsFalse (writes command Rev) → revisions (after d (step d request).deeds) path ≡ revisions d path }
     ensures contents { (d : List Deed) (request : Request) (command : Command) (path : List ℕ) (n : ℕ) →
         request.command ≡ Ok command → IsFalse (writes command Rev) →

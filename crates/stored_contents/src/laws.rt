@@ -19,7 +19,8 @@ ghost use Rattle.depot_rows.specs.table_changes.Changed.{AllRows, changed_by};
 /// it, each content of the depot after it stands at the spot of its revision's row: where it stood, or where it is
 /// stored.
 pub fn contents_stand_after_steps()
-    ensures { (all : AllRows) (from : ℕ) (d : List Deed) (told : ModelStep) (step : Step) (changes : List Change) → IsSound d → HasRows all d Rev →
+    ensures { (all : AllRows) (from : ℕ) (d : List Deed) (told : ModelStep) (step : Step) (changes : List Change) →
+        IsSound d → HasRows all d Rev →
         IsStoring all from d told step → AreDifferences all d (after d told.deeds) changes →
         ((key : Key) → row_in all key ≡ None → row_in (changed_by all changes) key ≡ effects step.deeds (row_in all) key) →
         StandAfter all from d (after d told.deeds) step.stores changes }

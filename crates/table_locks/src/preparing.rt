@@ -93,7 +93,8 @@ impl<'a, N: Naming> Confirmed<'a, N> {
     /// then fit the tables as they are after the whole order.
     pub fn holds(&self, changes: &[Change]) -> bool
         ensures held { result ≡ are_held self.now.held.items changes.now }
-        ensures fit { IsTrue result → (start : AllRows) (order : List Taken) (gathered : Gathered N) → IsConfirmed start order gathered self.now →
+        ensures fit { IsTrue result → (start : AllRows) (order : List Taken) (gathered : Gathered N) →
+            IsConfirmed start order gathered self.now →
             AllFitIn (rows_of self.now.tables) changes.now → AllFitIn (rows_after start order) changes.now }
     {
         self.holds_each(changes)

@@ -276,7 +276,8 @@ impl View {
     ) -> Result<Sequence<DepotPath>, AllocError>
         ensures value { IfOk result (λ files. files ≡ files_in self.now path.now) }
         ensures memory { OnErr result (some_client_fits self.now path.now ≡ true) }
-        ensures exactly { (file : List ℕ) → is_path file ≡ true → Contains (files_in self.now path.now) file ↔ (path_in self.now file ≡ Some path.now) }
+        ensures exactly { (file : List ℕ) → is_path file ≡ true →
+            Contains (files_in self.now path.now) file ↔ (path_in self.now file ≡ Some path.now) }
         ensures once { IsDistinct same (files_in self.now path.now) }
     {
         // the bytes of a path are one
@@ -289,7 +290,8 @@ impl View {
     /// together, from it on.
     pub fn beginnings(&self, alloc: Global, start: &[u8]) -> Result<Sequence<Text>, AllocError>
         ensures value { IfOk result (λ texts. texts ≡ beginnings start.now self.now) }
-        ensures every { (file path : List ℕ) → path_in self.now file ≡ Some path → begins_with (printed path) start.now ≡ true →
+        ensures every { (file path : List ℕ) → path_in self.now file ≡ Some path →
+            begins_with (printed path) start.now ≡ true →
             list_any (begins_with (printed file)) (beginnings start.now self.now) ≡ true }
     {
         beginnings_of(alloc, self.lines(), start)
