@@ -92,7 +92,8 @@ impl<D: Disk> Archive<D> {
         ensures written { IfOk result (λ spot. AllHave (D.says.seen (disk_of self.new)) spot content.now) }
         ensures small { IfOk result (λ spot. end_of spot < 2 ^ 63) }
         // What a read gives before the place it still gives.
-        ensures read { OnOk result ((spot : Spot) (bytes : List ℕ) → end_of spot ≤ at → AllHave (D.says.seen (disk_of self.old)) spot bytes → AllHave (D.says.seen (disk_of self.new)) spot bytes) }
+        ensures read { OnOk result ((spot : Spot) (bytes : List ℕ) → end_of spot ≤ at →
+            AllHave (D.says.seen (disk_of self.old)) spot bytes → AllHave (D.says.seen (disk_of self.new)) spot bytes) }
         ensures kept { (spot : Spot) (bytes : List ℕ) → end_of spot ≤ at →
             AllHave (D.says.may_leave (disk_of self.old)) spot bytes →
             AllHave (D.says.may_leave (disk_of self.new)) spot bytes }

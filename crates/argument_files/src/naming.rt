@@ -25,7 +25,8 @@ fn is_named(
     path: &DepotPath,
     mapped_only: bool,
 ) -> Result<bool, AllocError>
-    ensures { IfOk result (λ named. (d : List Deed) → NamesBy (rows_of tables.now) d mapped_only → IsAsker d caller.now asker.now →
+    ensures { IfOk result (λ named. (d : List Deed) → NamesBy (rows_of tables.now) d mapped_only →
+        IsAsker d caller.now asker.now →
         named ≡ names mapped_only d caller.now argument.now.spec path.now) }
 {
     if mapped_only {
@@ -54,7 +55,8 @@ pub fn named(
     files: &[DepotPath],
     mapped_only: bool,
 ) -> Result<Sequence<DepotPath>, AllocError>
-    ensures { IfOk result (λ found. (d : List Deed) → NamesBy (rows_of tables.now) d mapped_only → IsAsker d caller.now asker.now →
+    ensures { IfOk result (λ found. (d : List Deed) → NamesBy (rows_of tables.now) d mapped_only →
+        IsAsker d caller.now asker.now →
         found ≡ named_files mapped_only d caller.now files.now argument.now) }
 {
     let mut found = Sequence::new(alloc);

@@ -61,7 +61,8 @@ fn has_openings(
     client: &Name,
     change: u32,
 ) -> Result<bool, AllocError>
-    ensures { IfOk result (λ holds. (d : List Deed) → IsSound d → HasRows (rows_of tables.now) d table_ids.Working → holds ≡ nat_lt 0 (length (opened_in d client.now change))) }
+    ensures { IfOk result (λ holds. (d : List Deed) → IsSound d → HasRows (rows_of tables.now) d table_ids.Working →
+        holds ≡ nat_lt 0 (length (opened_in d client.now change))) }
 {
     let openings = openings_of(alloc, tables, client, change)?;
     let holds = 0 < openings.len();
@@ -87,7 +88,8 @@ pub fn change_delete(
     caller: &Caller,
     change: u32,
 ) -> Result<Step, AllocError>
-    ensures { IfOk result (λ step. (d : List Deed) → IsSound d → HasRows (rows_of tables.now) d table_ids.Change → HasRows (rows_of tables.now) d table_ids.Working →
+    ensures { IfOk result (λ step. (d : List Deed) → IsSound d → HasRows (rows_of tables.now) d table_ids.Change →
+        HasRows (rows_of tables.now) d table_ids.Working →
         IsMade (rows_of tables.now) d d (model.change_delete d caller.now change) step) }
 {
     let found = change_of(tables, change);

@@ -169,7 +169,8 @@ fn describe_landed(
     asker: &Asker,
     row: &ChangeRecord,
 ) -> Result<Step, AllocError>
-    ensures { IfOk result (λ step. (d : List Deed) (caller : CallerValue) → IsSound d → IsAsker d caller asker.now → HasRows (rows_of tables.now) d table_ids.Rev →
+    ensures { IfOk result (λ step. (d : List Deed) (caller : CallerValue) → IsSound d → IsAsker d caller asker.now →
+        HasRows (rows_of tables.now) d table_ids.Rev →
         step ≡ told (landed_told d caller row.now ∷ [])) }
 {
     let rows = landed_rows(alloc, tables, asker, row.change)?;
@@ -195,7 +196,8 @@ fn describe_found(
     change: u32,
     row: Option<&ChangeRecord>,
 ) -> Result<Step, AllocError>
-    ensures { IfOk result (λ step. (d : List Deed) (caller : CallerValue) → IsSound d → IsAsker d caller asker.now → HasRows (rows_of tables.now) d table_ids.Rev →
+    ensures { IfOk result (λ step. (d : List Deed) (caller : CallerValue) → IsSound d → IsAsker d caller asker.now →
+        HasRows (rows_of tables.now) d table_ids.Rev →
         step ≡ told (described_told d caller change (option_copied row.entry) ∷ [])) }
 {
     match row {
@@ -225,8 +227,10 @@ pub fn describe(
     asker: &Asker,
     change: u32,
 ) -> Result<Step, AllocError>
-    ensures { IfOk result (λ step. (d : List Deed) (caller : CallerValue) → IsSound d → IsAsker d caller asker.now → HasRows (rows_of tables.now) d table_ids.Change →
-        HasRows (rows_of tables.now) d table_ids.Rev → IsMade (rows_of tables.now) d d (model.describe d caller change) step) }
+    ensures { IfOk result (λ step. (d : List Deed) (caller : CallerValue) → IsSound d → IsAsker d caller asker.now →
+        HasRows (rows_of tables.now) d table_ids.Change →
+        HasRows (rows_of tables.now) d table_ids.Rev →
+        IsMade (rows_of tables.now) d d (model.describe d caller change) step) }
 {
     let found = change_of(tables, change);
     let step = describe_found(alloc, tables, asker, change, found)?;

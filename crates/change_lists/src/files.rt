@@ -71,7 +71,8 @@ pub(crate) fn landed_rows<'a>(
     asker: &Asker,
     change: u32,
 ) -> Result<Vec<&'a RevRecord>, AllocError>
-    ensures { IfOk result (λ rows. (d : List Deed) (caller : Caller) → IsSound d → IsAsker d caller asker.now → HasRows (rows_of tables.now) d table_ids.Rev →
+    ensures { IfOk result (λ rows. (d : List Deed) (caller : Caller) → IsSound d → IsAsker d caller asker.now →
+        HasRows (rows_of tables.now) d table_ids.Rev →
         map (λ row. seen row.now) rows.items ≡ map numbered_record (landed_files d caller change)) }
 {
     rows_tell_made(tables);
@@ -92,7 +93,8 @@ pub(crate) fn may_list_change(
     asker: &Asker,
     change: u32,
 ) -> Result<bool, AllocError>
-    ensures { IfOk result (λ may. (d : List Deed) (caller : Caller) → IsSound d → IsAsker d caller asker.now → HasRows (rows_of tables.now) d table_ids.Rev →
+    ensures { IfOk result (λ may. (d : List Deed) (caller : Caller) → IsSound d → IsAsker d caller asker.now →
+        HasRows (rows_of tables.now) d table_ids.Rev →
         may ≡ is_listable d caller change) }
 {
     rows_tell_made(tables);

@@ -181,7 +181,8 @@ fn is_listed(
     change: u32,
     row: &ChangeRecord,
 ) -> Result<bool, AllocError>
-    ensures { IfOk result (λ listed. (d : List Deed) (caller : CallerValue) → IsSound d → IsAsker d caller asker.now → HasRows (rows_of tables.now) d table_ids.Rev →
+    ensures { IfOk result (λ listed. (d : List Deed) (caller : CallerValue) → IsSound d → IsAsker d caller asker.now →
+        HasRows (rows_of tables.now) d table_ids.Rev →
         listed ≡ (same row.now.status (codes "pending") || model.is_listable d caller change)) }
 {
     if row.status.as_bytes() == b"pending".as_slice() {
@@ -200,7 +201,8 @@ fn tell_listed(
     filter: &Filter,
     change: u32,
 ) -> Result<Option<Row>, AllocError>
-    ensures { IfOk result (λ told. (d : List Deed) (caller : CallerValue) → IsSound d → IsAsker d caller asker.now → HasRows (rows_of tables.now) d table_ids.Change →
+    ensures { IfOk result (λ told. (d : List Deed) (caller : CallerValue) → IsSound d → IsAsker d caller asker.now →
+        HasRows (rows_of tables.now) d table_ids.Change →
         HasRows (rows_of tables.now) d table_ids.Rev →
         option_to_list told ≡ listed_at d caller filter.now.status.now filter.now.user.now filter.now.client.now change) }
 {
@@ -225,7 +227,8 @@ fn tell_newest(
     rows: &mut Sequence<Row>,
     most: Option<u32>,
 ) -> Result<(), AllocError>
-    ensures { OnOk result ((d : List Deed) (caller : CallerValue) → IsSound d → IsAsker d caller asker.now → HasRows (rows_of tables.now) d table_ids.Change →
+    ensures { OnOk result ((d : List Deed) (caller : CallerValue) → IsSound d → IsAsker d caller asker.now →
+        HasRows (rows_of tables.now) d table_ids.Change →
         HasRows (rows_of tables.now) d table_ids.Rev →
         rows.new ≡ rows.old ++ model.at_most most (flat_map (listed_at d caller filter.now.status.now filter.now.user.now filter.now.client.now) (model.numbers d))) }
 {
@@ -291,8 +294,10 @@ pub fn changes(
     client: &Option<Name>,
     files: &[FileArgument],
 ) -> Result<Step, AllocError>
-    ensures { IfOk result (λ step. (d : List Deed) → IsSound d → IsAsker d caller.now asker.now → HasRows (rows_of tables.now) d table_ids.Domain →
-        HasRows (rows_of tables.now) d table_ids.Have → HasRows (rows_of tables.now) d table_ids.Label → HasRows (rows_of tables.now) d table_ids.Change →
+    ensures { IfOk result (λ step. (d : List Deed) → IsSound d → IsAsker d caller.now asker.now →
+        HasRows (rows_of tables.now) d table_ids.Domain →
+        HasRows (rows_of tables.now) d table_ids.Have → HasRows (rows_of tables.now) d table_ids.Label →
+        HasRows (rows_of tables.now) d table_ids.Change →
         HasRows (rows_of tables.now) d table_ids.Rev →
         IsMade (rows_of tables.now) d d (model.changes d caller.now most status.now user.now client.now files.now) step) }
 {

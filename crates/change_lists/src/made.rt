@@ -33,7 +33,8 @@ fn push_change(
     path: &DepotPath,
     rev: &u32,
 ) -> Result<(), AllocError>
-    ensures { OnOk result ((d : List Deed) → HasRows (rows_of tables.now) d table_ids.Rev → made.new.items ≡ made.old.items ++ option_to_list (change_at d path.now rev.now)) }
+    ensures { OnOk result ((d : List Deed) → HasRows (rows_of tables.now) d table_ids.Rev →
+        made.new.items ≡ made.old.items ++ option_to_list (change_at d path.now rev.now)) }
 {
     let row = revision_of(alloc, tables, path, *rev)?;
     if let Some(row) = row {
@@ -71,7 +72,8 @@ fn push_file(
     argument: &FileArgument,
     path: &DepotPath,
 ) -> Result<(), AllocError>
-    ensures { OnOk result ((d : List Deed) → IsSound d → HasRows (rows_of tables.now) d table_ids.Rev → HasRows (rows_of tables.now) d table_ids.Change →
+    ensures { OnOk result ((d : List Deed) → IsSound d → HasRows (rows_of tables.now) d table_ids.Rev →
+        HasRows (rows_of tables.now) d table_ids.Change →
         HaveRows (rows_of tables.now) d (wanted_tables argument.now.spec.wanted) →
         made.new.items ≡ made.old.items ++ made_in_file d caller.now argument.now taken.now path.now) }
 {
@@ -94,7 +96,8 @@ fn push_files(
     argument: &FileArgument,
     paths: &[DepotPath],
 ) -> Result<(), AllocError>
-    ensures { OnOk result ((d : List Deed) → IsSound d → HasRows (rows_of tables.now) d table_ids.Rev → HasRows (rows_of tables.now) d table_ids.Change →
+    ensures { OnOk result ((d : List Deed) → IsSound d → HasRows (rows_of tables.now) d table_ids.Rev →
+        HasRows (rows_of tables.now) d table_ids.Change →
         HaveRows (rows_of tables.now) d (wanted_tables argument.now.spec.wanted) →
         made.new.items ≡ made.old.items ++ flat_map (made_in_file d caller.now argument.now taken.now) paths.now) }
 {
@@ -165,10 +168,12 @@ fn push_argument(
     taken: &mut PathSet,
     argument: &FileArgument,
 ) -> Result<(), AllocError>
-    ensures rows { OnOk result ((d : List Deed) → ShownReads caller.now asker.now Submitted (rows_of tables.now) d → rows.new ≡ rows.old ++ missing d caller.now argument.now) }
+    ensures rows { OnOk result ((d : List Deed) → ShownReads caller.now asker.now Submitted (rows_of tables.now) d →
+        rows.new ≡ rows.old ++ missing d caller.now argument.now) }
     ensures made { OnOk result ((d : List Deed) → ShownReads caller.now asker.now Submitted (rows_of tables.now) d →
         made.new.items ≡ made.old.items ++ made_of d caller.now argument.now (not_in taken.old (named false d caller.now (submitted d) argument.now))) }
-    ensures taken { OnOk result ((d : List Deed) → ShownReads caller.now asker.now Submitted (rows_of tables.now) d → (path : List ℕ) →
+    ensures taken { OnOk result ((d : List Deed) → ShownReads caller.now asker.now Submitted (rows_of tables.now) d →
+        (path : List ℕ) →
         is_in taken.new path ≡ is_in (taken.old ++ named false d caller.now (submitted d) argument.now) path) }
 {
     let paths = named_files_of(alloc, tables, caller, asker, argument)?;
@@ -196,8 +201,10 @@ pub(crate) fn changes_made(
     rows: &mut Sequence<Row>,
     arguments: &[FileArgument],
 ) -> Result<Vec<u32>, AllocError>
-    ensures rows { OnOk result ((d : List Deed) → ShownReads caller.now asker.now Submitted (rows_of tables.now) d → rows.new ≡ rows.old ++ flat_map (missing d caller.now) arguments.now) }
-    ensures made { IfOk result (λ made. (d : List Deed) → ShownReads caller.now asker.now Submitted (rows_of tables.now) d →
+    ensures rows { OnOk result ((d : List Deed) → ShownReads caller.now asker.now Submitted (rows_of tables.now) d →
+        rows.new ≡ rows.old ++ flat_map (missing d caller.now) arguments.now) }
+    ensures made { IfOk result (λ made. (d : List Deed) →
+        ShownReads caller.now asker.now Submitted (rows_of tables.now) d →
         made.items ≡ made_over d caller.now [] arguments.now) }
 {
     let mut made = Vec::new(alloc);

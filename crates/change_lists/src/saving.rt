@@ -142,7 +142,8 @@ fn keep(
     change: u32,
     paths: &[DepotPath],
 ) -> Result<Step, AllocError>
-    ensures { IfOk result (λ step. (d : List Deed) → IsSound d → HasRows (rows_of tables.now) d table_ids.Working → IsFalse (is_submitted (record_of d (keys.Change change))) →
+    ensures { IfOk result (λ step. (d : List Deed) → IsSound d → HasRows (rows_of tables.now) d table_ids.Working →
+        IsFalse (is_submitted (record_of d (keys.Change change))) →
         IsMade (rows_of tables.now) d d (saved_by d request.now text change paths.now) step) }
 {
     let openings = moved_openings(alloc, tables, &request.caller.client, change, paths)?;
@@ -152,7 +153,8 @@ fn keep(
 
 /// The number of a change: the one that is named, or else the next one.
 fn number_or_next(alloc: Global, tables: &Tables, number: Option<u32>) -> Result<u64, AllocError>
-    ensures { IfOk result (λ change. (d : List Deed) → IsSound d → HasRows (rows_of tables.now) d table_ids.Counter → change ≡ unwrap_or number (top d + 1)) }
+    ensures { IfOk result (λ change. (d : List Deed) → IsSound d → HasRows (rows_of tables.now) d table_ids.Counter →
+        change ≡ unwrap_or number (top d + 1)) }
 {
     match number {
         Some(change) => Ok(u64::from(change)),
@@ -204,8 +206,10 @@ fn save_within(
     text: Text,
     paths: &[DepotPath],
 ) -> Result<Step, AllocError>
-    ensures { IfOk result (λ step. (d : List Deed) → IsSound d → HasRows (rows_of tables.now) d table_ids.Counter → HasRows (rows_of tables.now) d table_ids.Working →
-        first_of (file_refusals d request.now.caller number paths.now) ≡ None → IsMade (rows_of tables.now) d d (with_limits d request.now number text paths.now) step) }
+    ensures { IfOk result (λ step. (d : List Deed) → IsSound d → HasRows (rows_of tables.now) d table_ids.Counter →
+        HasRows (rows_of tables.now) d table_ids.Working →
+        first_of (file_refusals d request.now.caller number paths.now) ≡ None →
+        IsMade (rows_of tables.now) d d (with_limits d request.now number text paths.now) step) }
 {
     let change = number_or_next(alloc, tables, number)?;
     let refused = limit_refusal(alloc, text.len(), change, paths.len())?;
@@ -247,7 +251,8 @@ fn not_open(
     client: &Name,
     path: &DepotPath,
 ) -> Result<Option<Row>, AllocError>
-    ensures { IfOk result (λ refused. (d : List Deed) (caller : ModelCaller) → caller.client ≡ client.now → HasRows (rows_of tables.now) d table_ids.Working →
+    ensures { IfOk result (λ refused. (d : List Deed) (caller : ModelCaller) → caller.client ≡ client.now →
+        HasRows (rows_of tables.now) d table_ids.Working →
         refused ≡ option_map refusal_row (model.not_open d caller path.now)) }
 {
     let row = opening_of(alloc, tables, client, path)?;
@@ -262,7 +267,8 @@ fn first_not_open(
     client: &Name,
     paths: &[DepotPath],
 ) -> Result<Option<Row>, AllocError>
-    ensures { IfOk result (λ refused. (d : List Deed) (caller : ModelCaller) → caller.client ≡ client.now → HasRows (rows_of tables.now) d table_ids.Working →
+    ensures { IfOk result (λ refused. (d : List Deed) (caller : ModelCaller) → caller.client ≡ client.now →
+        HasRows (rows_of tables.now) d table_ids.Working →
         refused ≡ option_map refusal_row (first_of (map (model.not_open d caller) paths.now))) }
 {
     let mut rest = paths;
@@ -284,7 +290,8 @@ fn file_refusal(
     number: Option<u32>,
     paths: &[DepotPath],
 ) -> Result<Option<Row>, AllocError>
-    ensures { IfOk result (λ refused. (d : List Deed) → HasRows (rows_of tables.now) d table_ids.Change → HasRows (rows_of tables.now) d table_ids.Working →
+    ensures { IfOk result (λ refused. (d : List Deed) → HasRows (rows_of tables.now) d table_ids.Change →
+        HasRows (rows_of tables.now) d table_ids.Working →
         refused ≡ option_map refusal_row (first_of (file_refusals d caller.now number paths.now))) }
 {
     let named = named_change_refusal(alloc, tables, caller, number)?;
@@ -306,7 +313,8 @@ fn save_files(
     text: Text,
     paths: &[DepotPath],
 ) -> Result<Step, AllocError>
-    ensures { IfOk result (λ step. (d : List Deed) → IsSound d → HasRows (rows_of tables.now) d table_ids.Counter → HasRows (rows_of tables.now) d table_ids.Change →
+    ensures { IfOk result (λ step. (d : List Deed) → IsSound d → HasRows (rows_of tables.now) d table_ids.Counter →
+        HasRows (rows_of tables.now) d table_ids.Change →
         HasRows (rows_of tables.now) d table_ids.Working →
         IsMade (rows_of tables.now) d d (unless (file_refusals d request.now.caller number paths.now) (with_limits d request.now number text paths.now)) step) }
 {
@@ -332,8 +340,10 @@ fn save_lines(
     input: &[u8],
     form: &Form,
 ) -> Result<Step, AllocError>
-    ensures { IfOk result (λ step. (d : List Deed) → IsSound d → HasRows (rows_of tables.now) d table_ids.Counter → HasRows (rows_of tables.now) d table_ids.Change →
-        HasRows (rows_of tables.now) d table_ids.Working → model.has_number form.now ≡ true → IsMade (rows_of tables.now) d d (model.change_form d request.now input.now form.now) step) }
+    ensures { IfOk result (λ step. (d : List Deed) → IsSound d → HasRows (rows_of tables.now) d table_ids.Counter →
+        HasRows (rows_of tables.now) d table_ids.Change →
+        HasRows (rows_of tables.now) d table_ids.Working → model.has_number form.now ≡ true →
+        IsMade (rows_of tables.now) d d (model.change_form d request.now input.now form.now) step) }
 {
     let mut paths = Sequence::new(alloc);
     let bad = push_paths(alloc, &mut paths, form.lines("Files"))?;
@@ -361,8 +371,10 @@ fn save(
     input: &[u8],
     form: &Form,
 ) -> Result<Step, AllocError>
-    ensures { IfOk result (λ step. (d : List Deed) → IsSound d → HasRows (rows_of tables.now) d table_ids.Counter → HasRows (rows_of tables.now) d table_ids.Change →
-        HasRows (rows_of tables.now) d table_ids.Working → IsMade (rows_of tables.now) d d (model.change_form d request.now input.now form.now) step) }
+    ensures { IfOk result (λ step. (d : List Deed) → IsSound d → HasRows (rows_of tables.now) d table_ids.Counter →
+        HasRows (rows_of tables.now) d table_ids.Change →
+        HasRows (rows_of tables.now) d table_ids.Working →
+        IsMade (rows_of tables.now) d d (model.change_form d request.now input.now form.now) step) }
 {
     if has_number(form) {
         let step = save_lines(alloc, tables, request, input, form)?;
@@ -385,8 +397,10 @@ pub fn change_save(
     request: &Request,
     input: &[u8],
 ) -> Result<Step, AllocError>
-    ensures { IfOk result (λ step. (d : List Deed) → IsSound d → HasRows (rows_of tables.now) d table_ids.Counter → HasRows (rows_of tables.now) d table_ids.Change →
-        HasRows (rows_of tables.now) d table_ids.Working → IsMade (rows_of tables.now) d d (model.change_save d request.now input.now) step) }
+    ensures { IfOk result (λ step. (d : List Deed) → IsSound d → HasRows (rows_of tables.now) d table_ids.Counter →
+        HasRows (rows_of tables.now) d table_ids.Change →
+        HasRows (rows_of tables.now) d table_ids.Working →
+        IsMade (rows_of tables.now) d d (model.change_save d request.now input.now) step) }
 {
     match Form::read(alloc, input, Shape::Change) {
         Ok(form) => {

@@ -101,7 +101,8 @@ fn show_new(
     caller: &Caller,
     asker: &Asker,
 ) -> Result<Step, AllocError>
-    ensures { IfOk result (λ step. (d : List Deed) → IsSound d → IsAsker d caller.now asker.now → HasRows (rows_of tables.now) d table_ids.Working →
+    ensures { IfOk result (λ step. (d : List Deed) → IsSound d → IsAsker d caller.now asker.now →
+        HasRows (rows_of tables.now) d table_ids.Working →
         step ≡ told (model.show_new d caller.now ∷ [])) }
 {
     let openings = openings_of(alloc, tables, &caller.client, 0)?;
@@ -121,7 +122,8 @@ fn openings_in(
     tables: &Tables,
     row: &ChangeRecord,
 ) -> Result<Sequence<Opening>, AllocError>
-    ensures { IfOk result (λ openings. (d : List Deed) → IsSound d → HasRows (rows_of tables.now) d table_ids.Working → map opening_of openings ≡ openings_told d row.now) }
+    ensures { IfOk result (λ openings. (d : List Deed) → IsSound d → HasRows (rows_of tables.now) d table_ids.Working →
+        map opening_of openings ≡ openings_told d row.now) }
 {
     if row.status.as_bytes() != b"pending".as_slice() || !is_name(row.client.as_bytes()) {
         let openings = Sequence::new(alloc);
@@ -140,7 +142,8 @@ fn show_row(
     change: u32,
     row: &ChangeRecord,
 ) -> Result<Step, AllocError>
-    ensures { IfOk result (λ step. (d : List Deed) (caller : ModelCaller) → IsSound d → IsAsker d caller asker.now → HasRows (rows_of tables.now) d table_ids.Working →
+    ensures { IfOk result (λ step. (d : List Deed) (caller : ModelCaller) → IsSound d → IsAsker d caller asker.now →
+        HasRows (rows_of tables.now) d table_ids.Working →
         step ≡ told (record_row d caller change row.now ∷ [])) }
 {
     let openings = openings_in(alloc, tables, row)?;
@@ -170,8 +173,10 @@ fn show_found(
     change: u32,
     row: Option<&ChangeRecord>,
 ) -> Result<Step, AllocError>
-    ensures { IfOk result (λ step. (d : List Deed) (caller : ModelCaller) → IsSound d → IsAsker d caller asker.now → HasRows (rows_of tables.now) d table_ids.Working →
-        option_map records.Change (option_copied row.entry) ≡ change_record d change → IsMade (rows_of tables.now) d d (model.show_numbered d caller change) step) }
+    ensures { IfOk result (λ step. (d : List Deed) (caller : ModelCaller) → IsSound d → IsAsker d caller asker.now →
+        HasRows (rows_of tables.now) d table_ids.Working →
+        option_map records.Change (option_copied row.entry) ≡ change_record d change →
+        IsMade (rows_of tables.now) d d (model.show_numbered d caller change) step) }
 {
     match row {
         Some(row) => {
@@ -195,8 +200,10 @@ pub fn change_show(
     asker: &Asker,
     change: Option<u32>,
 ) -> Result<Step, AllocError>
-    ensures { IfOk result (λ step. (d : List Deed) → IsSound d → IsAsker d caller.now asker.now → HasRows (rows_of tables.now) d table_ids.Change →
-        HasRows (rows_of tables.now) d table_ids.Working → IsMade (rows_of tables.now) d d (model.change_show d caller.now change) step) }
+    ensures { IfOk result (λ step. (d : List Deed) → IsSound d → IsAsker d caller.now asker.now →
+        HasRows (rows_of tables.now) d table_ids.Change →
+        HasRows (rows_of tables.now) d table_ids.Working →
+        IsMade (rows_of tables.now) d d (model.change_show d caller.now change) step) }
 {
     match change {
         Some(change) => {

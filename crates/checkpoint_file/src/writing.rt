@@ -65,7 +65,8 @@ pub fn write_generation<D: Disk>(
         LeavesOnly D.says (disk_of journal.old) (disk_of journal.new) (StandsForEither (was.generation + 1) d archive) }
     ensures opened { (was : Committed) (rows : AllRows) (d : List Deed) (archive : Files) →
         Stands D.says journal.old was nothing → IsOfDepot was rows d archive → IsNext was rows d text.now →
-        OnOk result ((image : Files) → D.says.may_leave (disk_of journal.new) image → StandFor (of_generation (was.generation + 1) d) image archive) }
+        OnOk result ((image : Files) → D.says.may_leave (disk_of journal.new) image →
+        StandFor (of_generation (was.generation + 1) d) image archive) }
 
     // The files of the generations before stay as they are, and so do this one's, at every moment.
     ensures older { Follows (SameBefore (3 + 2 * generation_of_journal journal.old)) (D.says.may_leave (disk_of journal.old)) (D.says.may_leave (disk_of journal.new)) }

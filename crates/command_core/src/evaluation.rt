@@ -51,9 +51,12 @@ fn files_step(
     asker: &Asker,
     command: &Command,
 ) -> Result<Step, AllocError>
-    ensures { IfOk result (λ step. (d : List Deed) → IsSound d → IsAsker d request.now.caller asker.now → IsFalse (is_of_spec command.now) →
-        IsFalse (is_of_server command.now) → IsFalse (is_of_job command.now) → IsFalse (submits command.now) → IsFormed command.now →
-        HasTouched (rows_of tables.now) d command.now → IsMade (rows_of tables.now) d d (own_step_of d request.now command.now) step) }
+    ensures { IfOk result (λ step. (d : List Deed) → IsSound d → IsAsker d request.now.caller asker.now →
+        IsFalse (is_of_spec command.now) →
+        IsFalse (is_of_server command.now) → IsFalse (is_of_job command.now) → IsFalse (submits command.now) →
+        IsFormed command.now →
+        HasTouched (rows_of tables.now) d command.now →
+        IsMade (rows_of tables.now) d d (own_step_of d request.now command.now) step) }
 {
     if is_opening(command) {
         return opening_step(alloc, tables, request, asker, command);
@@ -80,8 +83,10 @@ fn own_step(
     who: Who,
     command: &Command,
 ) -> Result<Step, AllocError>
-    ensures { IfOk result (λ step. (d : List Deed) → IsSound d → who ≡ who_in d request.now.caller → IsFalse (submits command.now) → IsFormed command.now →
-        HasTouched (rows_of tables.now) d command.now → IsMade (rows_of tables.now) d d (own_step_of d request.now command.now) step) }
+    ensures { IfOk result (λ step. (d : List Deed) → IsSound d → who ≡ who_in d request.now.caller →
+        IsFalse (submits command.now) → IsFormed command.now →
+        HasTouched (rows_of tables.now) d command.now →
+        IsMade (rows_of tables.now) d d (own_step_of d request.now command.now) step) }
 {
     if is_spec(command) {
         return spec_step(alloc, tables, request, command);
@@ -108,7 +113,8 @@ fn storing_step(
     who: Who,
     command: &Command,
 ) -> Result<Step, AllocError>
-    ensures { IfOk result (λ step. (d : List Deed) → IsSound d → who ≡ who_in d request.now.caller → first_of (last_refusals d command.now) ≡ None →
+    ensures { IfOk result (λ step. (d : List Deed) → IsSound d → who ≡ who_in d request.now.caller →
+        first_of (last_refusals d command.now) ≡ None →
         IsFormed command.now → HasTouched (rows_of tables.now) d command.now →
         IsStoring (rows_of tables.now) tables.now.archive_end d (own_step_of d request.now command.now) step) }
 {
@@ -131,7 +137,8 @@ fn command_step(
     request: &Request,
     command: &Command,
 ) -> Result<Step, AllocError>
-    ensures { IfOk result (λ step. (d : List Deed) → IsSound d → IsFormed command.now → HasTouched (rows_of tables.now) d command.now →
+    ensures { IfOk result (λ step. (d : List Deed) → IsSound d → IsFormed command.now →
+        HasTouched (rows_of tables.now) d command.now →
         IsStoring (rows_of tables.now) tables.now.archive_end d (whole_step d request.now command.now) step) }
 {
     let who = who_of(alloc, tables, &request.caller)?;
@@ -150,7 +157,8 @@ fn command_step(
 
 /// The step of a request.
 fn request_step(alloc: Global, tables: &Tables, request: &Request) -> Result<Step, AllocError>
-    ensures { IfOk result (λ made. (d : List Deed) → IsSound d → IsFormedBy request.now → HasNeeded (rows_of tables.now) d request.now →
+    ensures { IfOk result (λ made. (d : List Deed) → IsSound d → IsFormedBy request.now →
+        HasNeeded (rows_of tables.now) d request.now →
         IsStep (rows_of tables.now) tables.now.archive_end d (step d request.now) made) }
 {
     match &request.command {
@@ -167,11 +175,15 @@ fn request_step(alloc: Global, tables: &Tables, request: &Request) -> Result<Ste
 
 /// The outcome of a step.
 fn finish(alloc: Global, tables: &Tables, step: Step) -> Result<Outcome, AllocError>
-    ensures told { IfOk result (λ outcome. (outcome.reply.rows ≡ step.rows) × (outcome.stores ≡ step.stores) × (outcome.reads ≡ step.reads)) }
-    ensures changes { IfOk result (λ outcome. (d : List Deed) (model : ModelStep) → NotBoth d → IsStep (rows_of tables.now) tables.now.archive_end d model step →
+    ensures told { IfOk result (λ outcome. (outcome.reply.rows ≡ step.rows) × (outcome.stores ≡ step.stores) ×
+        (outcome.reads ≡ step.reads)) }
+    ensures changes { IfOk result (λ outcome. (d : List Deed) (model : ModelStep) → NotBoth d →
+        IsStep (rows_of tables.now) tables.now.archive_end d model step →
         AreDifferences (rows_of tables.now) d (after d model.deeds) outcome.changes) }
-    ensures contents { IfOk result (λ outcome. (d : List Deed) (model : ModelStep) → IsSound d → IsStep (rows_of tables.now) tables.now.archive_end d model step →
-        HasRows (rows_of tables.now) d table_ids.Rev → StandAfter (rows_of tables.now) tables.now.archive_end d (after d model.deeds) outcome.stores outcome.changes) }
+    ensures contents { IfOk result (λ outcome. (d : List Deed) (model : ModelStep) → IsSound d →
+        IsStep (rows_of tables.now) tables.now.archive_end d model step →
+        HasRows (rows_of tables.now) d table_ids.Rev →
+        StandAfter (rows_of tables.now) tables.now.archive_end d (after d model.deeds) outcome.stores outcome.changes) }
     ensures fit { IfOk result (λ outcome. AllFitIn (rows_of tables.now) outcome.changes) }
 {
     let changes = row_changes(alloc, tables, step.deeds.as_slice())?;
@@ -187,7 +199,8 @@ fn finish(alloc: Global, tables: &Tables, step: Step) -> Result<Outcome, AllocEr
 /// what is used of it; nothing is changed or stored yet. Where the tables that it needs have the rows of
 /// a sound depot, all are the model's. The one error is want of memory.
 pub fn evaluate(alloc: Global, tables: &Tables, request: &Request) -> Result<Outcome, AllocError>
-    ensures outcome { IfOk result (λ outcome. (d : List Deed) → IsSound d → IsFormedBy request.now → HasNeeded (rows_of tables.now) d request.now →
+    ensures outcome { IfOk result (λ outcome. (d : List Deed) → IsSound d → IsFormedBy request.now →
+        HasNeeded (rows_of tables.now) d request.now →
         IsOutcome (rows_of tables.now) tables.now.archive_end d request.now outcome) }
     // Whatever the tables have, each change fits after those before it.
     ensures fit { IfOk result (λ outcome. AllFitIn (rows_of tables.now) outcome.changes) }

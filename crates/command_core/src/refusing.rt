@@ -84,7 +84,8 @@ fn asks_client(caller: &Caller, command: &Command) -> bool
 
 /// Whether a name is that of a label or of a client.
 fn is_known(alloc: Global, tables: &Tables, name: &Name) -> Result<bool, AllocError>
-    ensures { IfOk result (λ known. (d : List Deed) → HasRows (rows_of tables.now) d table_ids.Domain → known ≡ (label_saved d name.now || client_saved d name.now)) }
+    ensures { IfOk result (λ known. (d : List Deed) → HasRows (rows_of tables.now) d table_ids.Domain →
+        known ≡ (label_saved d name.now || client_saved d name.now)) }
 {
     let label = is_label(alloc, tables, name)?;
     let client = is_client(alloc, tables, name)?;
@@ -97,7 +98,8 @@ fn unknown_name<'a>(
     tables: &Tables,
     wanted: &'a Wanted,
 ) -> Result<Option<&'a Name>, AllocError>
-    ensures { IfOk result (λ name. (d : List Deed) → HasRows (rows_of tables.now) d table_ids.Domain → option_to_list (option_copied name) ≡ unknown_in d wanted.now) }
+    ensures { IfOk result (λ name. (d : List Deed) → HasRows (rows_of tables.now) d table_ids.Domain →
+        option_to_list (option_copied name) ≡ unknown_in d wanted.now) }
 {
     match wanted {
         Wanted::One(RevSpec::Named(name)) => {
@@ -154,8 +156,10 @@ fn common_refusal(
     who: &Who,
     command: &Command,
 ) -> Result<Option<Row>, AllocError>
-    ensures { IfOk result (λ row. (d : List Deed) → IsSound d → who.now ≡ who_in d caller.now → HasRows (rows_of tables.now) d table_ids.Protect →
-        HasRows (rows_of tables.now) d table_ids.Domain → row ≡ option_map refusal_row (first_of (common_refusals d caller.now (about command.now)))) }
+    ensures { IfOk result (λ row. (d : List Deed) → IsSound d → who.now ≡ who_in d caller.now →
+        HasRows (rows_of tables.now) d table_ids.Protect →
+        HasRows (rows_of tables.now) d table_ids.Domain →
+        row ≡ option_map refusal_row (first_of (common_refusals d caller.now (about command.now)))) }
 {
     let need = need_of(command);
     let may = protects_of(tables).may_any(who, need);
@@ -251,8 +255,10 @@ pub(crate) fn first_refusal(
     who: &Who,
     command: &Command,
 ) -> Result<Option<Row>, AllocError>
-    ensures { IfOk result (λ row. (d : List Deed) → IsSound d → who.now ≡ who_in d caller.now → HasRows (rows_of tables.now) d table_ids.Protect →
-        HasRows (rows_of tables.now) d table_ids.Domain → row ≡ option_map refusal_row (first_of (common_refusals d caller.now (about command.now) ++ last_refusals d command.now))) }
+    ensures { IfOk result (λ row. (d : List Deed) → IsSound d → who.now ≡ who_in d caller.now →
+        HasRows (rows_of tables.now) d table_ids.Protect →
+        HasRows (rows_of tables.now) d table_ids.Domain →
+        row ≡ option_map refusal_row (first_of (common_refusals d caller.now (about command.now) ++ last_refusals d command.now))) }
 {
     let common = common_refusal(alloc, tables, caller, who, command)?;
     match common {

@@ -23,7 +23,8 @@ pub(crate) fn server_step(
     request: &Request,
     command: &Command,
 ) -> Result<Step, AllocError>
-    ensures { IfOk result (λ step. (d : List Deed) → IsSound d → IsTrue (is_server command.now) → IsFormed command.now → HasTouched (rows_of tables.now) d command.now →
+    ensures { IfOk result (λ step. (d : List Deed) → IsSound d → IsTrue (is_server command.now) → IsFormed command.now →
+        HasTouched (rows_of tables.now) d command.now →
         IsMade (rows_of tables.now) d d (own_step d request.now command.now) step) }
 {
     match command {

@@ -28,7 +28,8 @@ pub(crate) fn submit_step(
     asker: &Asker,
     command: &Command,
 ) -> Result<Step, AllocError>
-    ensures { IfOk result (λ step. (d : List Deed) → IsSound d → IsAsker d request.now.caller asker.now → IsTrue (is_submit command.now) →
+    ensures { IfOk result (λ step. (d : List Deed) → IsSound d → IsAsker d request.now.caller asker.now →
+        IsTrue (is_submit command.now) →
         first_of (last_refusals d command.now) ≡ None → HasTouched (rows_of tables.now) d command.now →
         IsStoring (rows_of tables.now) tables.now.archive_end d (own_step d request.now command.now) step) }
 {

@@ -28,8 +28,10 @@ pub(crate) fn syncing_step(
     asker: &Asker,
     command: &Command,
 ) -> Result<Step, AllocError>
-    ensures { IfOk result (λ step. (d : List Deed) → IsSound d → IsAsker d request.now.caller asker.now → IsTrue (is_syncing command.now) →
-        IsFormed command.now → HasTouched (rows_of tables.now) d command.now → IsMade (rows_of tables.now) d d (own_step d request.now command.now) step) }
+    ensures { IfOk result (λ step. (d : List Deed) → IsSound d → IsAsker d request.now.caller asker.now →
+        IsTrue (is_syncing command.now) →
+        IsFormed command.now → HasTouched (rows_of tables.now) d command.now →
+        IsMade (rows_of tables.now) d d (own_step d request.now command.now) step) }
 {
     let caller = &request.caller;
     match command {

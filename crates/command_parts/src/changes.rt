@@ -62,7 +62,8 @@ pub fn change_refusal(
     caller: &Caller,
     change: u32,
 ) -> Result<Option<Row>, AllocError>
-    ensures { IfOk result (λ row. (d : List Deed) → HasRows (rows_of tables.now) d table_ids.Change → row ≡ option_map refusal_row (model.change_refusal d caller.now change)) }
+    ensures { IfOk result (λ row. (d : List Deed) → HasRows (rows_of tables.now) d table_ids.Change →
+        row ≡ option_map refusal_row (model.change_refusal d caller.now change)) }
 {
     let found = change_of(tables, change);
     let row = refusal_of(alloc, caller, change, found)?;
@@ -76,7 +77,8 @@ pub fn reopened_change_refusal(
     caller: &Caller,
     change: Option<u32>,
 ) -> Result<Option<Row>, AllocError>
-    ensures { IfOk result (λ row. (d : List Deed) → HasRows (rows_of tables.now) d table_ids.Change → row ≡ option_map refusal_row (model.reopened_change_refusal d caller.now change)) }
+    ensures { IfOk result (λ row. (d : List Deed) → HasRows (rows_of tables.now) d table_ids.Change →
+        row ≡ option_map refusal_row (model.reopened_change_refusal d caller.now change)) }
 {
     match change {
         Some(change) => {
@@ -97,7 +99,8 @@ pub fn named_change_refusal(
     caller: &Caller,
     change: Option<u32>,
 ) -> Result<Option<Row>, AllocError>
-    ensures { IfOk result (λ row. (d : List Deed) → HasRows (rows_of tables.now) d table_ids.Change → row ≡ option_map refusal_row (model.named_change_refusal d caller.now change)) }
+    ensures { IfOk result (λ row. (d : List Deed) → HasRows (rows_of tables.now) d table_ids.Change →
+        row ≡ option_map refusal_row (model.named_change_refusal d caller.now change)) }
 {
     match change {
         Some(change) => {

@@ -35,7 +35,8 @@ const LAST: u32 = 4095;
 
 /// What a checkpoint changes in the rows of tables.
 fn checkpoint_changes(alloc: Global, tables: &Tables) -> Result<Vec<Change>, AllocError>
-    ensures differences { IfOk result (λ changes. (d : List Deed) → Stand (rows_of tables.now) d → AreDifferences (rows_of tables.now) d (checkpointed d) changes.items) }
+    ensures differences { IfOk result (λ changes. (d : List Deed) → Stand (rows_of tables.now) d →
+        AreDifferences (rows_of tables.now) d (checkpointed d) changes.items) }
     ensures fit { IfOk result (λ changes. AllFitIn (rows_of tables.now) changes.items) }
 {
     let step = checkpoint(alloc, tables)?;
@@ -47,8 +48,10 @@ fn checkpoint_changes(alloc: Global, tables: &Tables) -> Result<Vec<Change>, All
 /// number in the counter `journal`.
 fn next_text(alloc: Global, tables: &Tables, generation: u32) -> Result<Text, AllocError>
     requires { generation < 4095 }
-    ensures { IfOk result (λ text. (was : Committed) (d : List Deed) → HasAllRows was (rows_of tables.now) → Stand (rows_of tables.now) d →
-        generation_in d ≡ was.generation → was.generation ≡ generation → IsNext was (rows_of tables.now) d text × IsNextOf was (rows_of tables.now) d text) }
+    ensures { IfOk result (λ text. (was : Committed) (d : List Deed) → HasAllRows was (rows_of tables.now) →
+        Stand (rows_of tables.now) d →
+        generation_in d ≡ was.generation → was.generation ≡ generation →
+        IsNext was (rows_of tables.now) d text × IsNextOf was (rows_of tables.now) d text) }
 {
     let changes = checkpoint_changes(alloc, tables)?;
     let items = changes.as_slice();
@@ -72,7 +75,8 @@ pub fn take_checkpoint<D: Disk>(
     // The files then stand for the depot after the deeds of the checkpoint.
     ensures taken { (was : Committed) (d : List Deed) (archive : Files) → Stands D.says journal.old was nothing →
         IsOfDepot was (rows_of tables.now) d archive →
-        OnOk result ((image : Files) → D.says.may_leave (disk_of journal.new) image → StandFor (checkpointed d) image archive) }
+        OnOk result ((image : Files) → D.says.may_leave (disk_of journal.new) image →
+        StandFor (checkpointed d) image archive) }
     // At every moment they stand for the depot before or after these.
     ensures any_moment { (was : Committed) (d : List Deed) (archive : Files) → Stands D.says journal.old was nothing →
         IsOfDepot was (rows_of tables.now) d archive →

@@ -54,7 +54,8 @@ fn landed_up_to(tables: &Tables, last: u32) -> u64
 
 /// The greatest number of a change, as it fits.
 fn last_change(alloc: Global, tables: &Tables) -> Result<u32, AllocError>
-    ensures { IfOk result (λ last. (d : List Deed) → IsSound d → HasRows (rows_of tables.now) d table_ids.Counter → last ≡ top d) }
+    ensures { IfOk result (λ last. (d : List Deed) → IsSound d → HasRows (rows_of tables.now) d table_ids.Counter →
+        last ≡ top d) }
 {
     let top = top_change(alloc, tables)?;
     Ok(top.min(MOST_CHANGE) as u32)
@@ -63,7 +64,8 @@ fn last_change(alloc: Global, tables: &Tables) -> Result<u32, AllocError>
 /// The number of submitted changes (Command-Line Reference, "p4 changes"), from the tables of counters and of changes.
 /// It looks up each number up to the greatest. The one error is want of memory.
 pub fn landed_changes(alloc: Global, tables: &Tables) -> Result<u64, AllocError>
-    ensures { IfOk result (λ count. (d : List Deed) → IsSound d → HasRows (rows_of tables.now) d table_ids.Counter → HasRows (rows_of tables.now) d table_ids.Change → count ≡ spec.changes_in d) }
+    ensures { IfOk result (λ count. (d : List Deed) → IsSound d → HasRows (rows_of tables.now) d table_ids.Counter →
+        HasRows (rows_of tables.now) d table_ids.Change → count ≡ spec.changes_in d) }
 {
     let last = last_change(alloc, tables)?;
     Ok(landed_up_to(tables, last))

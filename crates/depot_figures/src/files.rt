@@ -40,7 +40,8 @@ fn row_size(row: Option<&RevRecord>) -> u64
 
 /// The size of a revision, 0 where there is none.
 fn size_at(alloc: Global, tables: &Tables, path: &DepotPath, rev: u32) -> Result<u64, AllocError>
-    ensures { IfOk result (λ size. (d : List Deed) → HasRows (rows_of tables.now) d table_ids.Rev → size ≡ spec.size_at d path.now rev) }
+    ensures { IfOk result (λ size. (d : List Deed) → HasRows (rows_of tables.now) d table_ids.Rev →
+        size ≡ spec.size_at d path.now rev) }
 {
     let row = revision_of(alloc, tables, path, rev)?;
     let size = row_size(row);
@@ -54,7 +55,8 @@ fn sizes_up_to(
     path: &DepotPath,
     last: u32,
 ) -> Result<u64, AllocError>
-    ensures { IfOk result (λ size. (d : List Deed) → HasRows (rows_of tables.now) d table_ids.Rev → size ≡ spec.capped (spec.sizes_up_to d path.now last)) }
+    ensures { IfOk result (λ size. (d : List Deed) → HasRows (rows_of tables.now) d table_ids.Rev →
+        size ≡ spec.capped (spec.sizes_up_to d path.now last)) }
 {
     let mut sum: u64 = 0;
     for before in 0..last {
@@ -66,7 +68,8 @@ fn sizes_up_to(
 
 /// The sum of the sizes of a file's revisions.
 fn file_size(alloc: Global, tables: &Tables, path: &DepotPath) -> Result<u64, AllocError>
-    ensures { IfOk result (λ size. (d : List Deed) → IsSound d → HasRows (rows_of tables.now) d table_ids.Rev → size ≡ spec.capped (spec.file_size d path.now)) }
+    ensures { IfOk result (λ size. (d : List Deed) → IsSound d → HasRows (rows_of tables.now) d table_ids.Rev →
+        size ≡ spec.capped (spec.file_size d path.now)) }
 {
     let head = head_of(alloc, tables, path)?;
     let size = sizes_up_to(alloc, tables, path, head)?;
@@ -75,7 +78,8 @@ fn file_size(alloc: Global, tables: &Tables, path: &DepotPath) -> Result<u64, Al
 
 /// The sum of the sizes of the revisions of files.
 fn bytes_of(alloc: Global, tables: &Tables, paths: &[DepotPath]) -> Result<u64, AllocError>
-    ensures { IfOk result (λ size. (d : List Deed) → IsSound d → HasRows (rows_of tables.now) d table_ids.Rev → size ≡ spec.capped (sum_by (spec.file_size d) paths.now)) }
+    ensures { IfOk result (λ size. (d : List Deed) → IsSound d → HasRows (rows_of tables.now) d table_ids.Rev →
+        size ≡ spec.capped (sum_by (spec.file_size d) paths.now)) }
 {
     let mut sum: u64 = 0;
     let mut rest = paths;
@@ -89,7 +93,8 @@ fn bytes_of(alloc: Global, tables: &Tables, paths: &[DepotPath]) -> Result<u64, 
 
 /// How many of these files aren't deleted at their newest revision.
 fn live_of(alloc: Global, tables: &Tables, paths: &[DepotPath]) -> Result<u64, AllocError>
-    ensures { IfOk result (λ live. (d : List Deed) → IsSound d → HasRows (rows_of tables.now) d table_ids.Rev → live ≡ count_by (live_head d) paths.now) }
+    ensures { IfOk result (λ live. (d : List Deed) → IsSound d → HasRows (rows_of tables.now) d table_ids.Rev →
+        live ≡ count_by (live_head d) paths.now) }
 {
     let mut count: u64 = 0;
     for path in paths {
@@ -104,8 +109,10 @@ fn live_of(alloc: Global, tables: &Tables, paths: &[DepotPath]) -> Result<u64, A
 /// The figures of all submitted files (Command-Line Reference, "p4 files", "p4 sizes"), from the table of revisions.
 /// The one error is want of memory.
 pub fn file_figures(alloc: Global, tables: &Tables) -> Result<FileFigures, AllocError>
-    ensures live { IfOk result (λ figures. (d : List Deed) → IsSound d → HasRows (rows_of tables.now) d table_ids.Rev → figures.live ≡ spec.live_files_in d) }
-    ensures bytes { IfOk result (λ figures. (d : List Deed) → IsSound d → HasRows (rows_of tables.now) d table_ids.Rev → figures.bytes ≡ spec.bytes_in d) }
+    ensures live { IfOk result (λ figures. (d : List Deed) → IsSound d → HasRows (rows_of tables.now) d table_ids.Rev →
+        figures.live ≡ spec.live_files_in d) }
+    ensures bytes { IfOk result (λ figures. (d : List Deed) → IsSound d → HasRows (rows_of tables.now) d table_ids.Rev →
+        figures.bytes ≡ spec.bytes_in d) }
 {
     let paths = all_files(alloc, tables, &Listing::Submitted)?;
     let live = live_of(alloc, tables, paths.as_slice())?;

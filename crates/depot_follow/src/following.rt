@@ -84,7 +84,8 @@ pub(crate) fn follow<D: Disk>(
 ) -> Result<Figures, ChainCause>
     requires can { CanFollow D.says node.old }
     ensures agrees { OnOk result (AgreeWith D.says up.old node.old) }
-    ensures upstream { IfOk result (λ figures. (c : Chronicle) → IsNode D.says up.old c → IsSoFar c figures.generation figures.changes) }
+    ensures upstream { IfOk result (λ figures. (c : Chronicle) → IsNode D.says up.old c →
+        IsSoFar c figures.generation figures.changes) }
     ensures position { IfOk result (λ figures. IsPosition node.new figures.generation figures.changes) }
     ensures rows { OnOk result (rows_of node.new.tables ≡ rows_of up.old.tables) }
     ensures verified { IfOk result (λ figures. AreVerified D.says node.new figures.verified) }

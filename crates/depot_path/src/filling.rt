@@ -51,7 +51,8 @@ fn keep_column(
     column: &[bool],
     columns: &mut Vec<Sequence<bool>>,
 ) -> Result<(), AllocError>
-    ensures { OnOk result ((pieces : List Piece) (text : List ℕ) → IsColumn pieces text column.now → AreColumns pieces text columns.old.items → AreColumns (piece ∷ pieces) text columns.new.items) }
+    ensures { OnOk result ((pieces : List Piece) (text : List ℕ) → IsColumn pieces text column.now →
+        AreColumns pieces text columns.old.items → AreColumns (piece ∷ pieces) text columns.new.items) }
 {
     if is_specifier(piece) {
         columns.push(Sequence::from_vec(column.to_vec(alloc)?))?;

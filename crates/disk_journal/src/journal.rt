@@ -134,7 +134,8 @@ impl<D: Disk> Journal<D> {
             OnOk result (Stands D.says self.new (with_group was (group_of prepared)) nothing) }
         // The closed mark behind the group is `@mx@` and a line end.
         ensures closed { (was : Committed) → Stands D.says self.old was nothing →
-            OnOk result ((image : Files) → D.says.may_leave (disk_of self.new) image → HasClosedMark (with_group was (group_of prepared)) image) }
+            OnOk result ((image : Files) → D.says.may_leave (disk_of self.new) image →
+            HasClosedMark (with_group was (group_of prepared)) image) }
         ensures receipt { (was : Committed) → Stands D.says self.old was nothing →
             IfOk result (λ receipt. (receipt.generation ≡ was.generation) × (receipt.group ≡ length was.groups + 1)) }
 
@@ -226,7 +227,8 @@ impl<D: Disk> Journal<D> {
             OnOk result (Stands D.says self.new (with_generation was checkpoint.now) nothing) }
         // The next generation's journal begins with the closed mark `@mx@` and a line end.
         ensures closed { (was : Committed) → Stands D.says self.old was nothing →
-            OnOk result ((image : Files) → D.says.may_leave (disk_of self.new) image → HasClosedMark (with_generation was checkpoint.now) image) }
+            OnOk result ((image : Files) → D.says.may_leave (disk_of self.new) image →
+            HasClosedMark (with_generation was checkpoint.now) image) }
         ensures number { IfOk result (λ n. n ≡ generation_of_journal self.old + 1) }
 
         // Where the root mark's write wasn't begun, no image of the call is of the next generation; else it is in

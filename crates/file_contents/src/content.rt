@@ -132,7 +132,8 @@ pub(crate) fn block_of<'a>(
     contents: &'a Contents,
     path: &DepotPath,
 ) -> Result<Option<&'a Text>, AllocError>
-    ensures { IfOk result (λ block. (d : List Deed) (request : AnyRequest) → IsAsker d request.caller asker.now → contents.now ≡ request.contents →
+    ensures { IfOk result (λ block. (d : List Deed) (request : AnyRequest) → IsAsker d request.caller asker.now →
+        contents.now ≡ request.contents →
         option_copied block ≡ model.block_of d request request.caller.client path.now) }
 {
     let found = asker.place(alloc, path)?;
@@ -153,7 +154,8 @@ fn moved_block<'a>(
     contents: &'a Contents,
     moved: &Option<DepotPath>,
 ) -> Result<Option<&'a Text>, AllocError>
-    ensures { IfOk result (λ block. (d : List Deed) (request : AnyRequest) → IsAsker d request.caller asker.now → contents.now ≡ request.contents →
+    ensures { IfOk result (λ block. (d : List Deed) (request : AnyRequest) → IsAsker d request.caller asker.now →
+        contents.now ≡ request.contents →
         option_copied block ≡ option_and_then (model.block_of d request request.caller.client) moved.now) }
 {
     match moved {
@@ -174,7 +176,8 @@ fn moved_content<'a>(
     contents: &'a Contents,
     opening: &Opening,
 ) -> Result<Found<'a>, AllocError>
-    ensures { IfOk result (λ found. (d : List Deed) (request : AnyRequest) → IsSound d → HasRows (rows_of tables.now) d table_ids.Rev → IsAsker d request.caller asker.now →
+    ensures { IfOk result (λ found. (d : List Deed) (request : AnyRequest) → IsSound d →
+        HasRows (rows_of tables.now) d table_ids.Rev → IsAsker d request.caller asker.now →
         contents.now ≡ request.contents → opening.now.client ≡ request.caller.client →
         IsFound (rows_of tables.now) d found (model.moved_content d request (opening_of opening.now))) }
 {
@@ -198,7 +201,8 @@ fn block_or_base<'a>(
     contents: &'a Contents,
     opening: &Opening,
 ) -> Result<Found<'a>, AllocError>
-    ensures { IfOk result (λ found. (d : List Deed) (request : AnyRequest) → IsSound d → HasRows (rows_of tables.now) d table_ids.Rev → IsAsker d request.caller asker.now →
+    ensures { IfOk result (λ found. (d : List Deed) (request : AnyRequest) → IsSound d →
+        HasRows (rows_of tables.now) d table_ids.Rev → IsAsker d request.caller asker.now →
         contents.now ≡ request.contents → opening.now.client ≡ request.caller.client →
         IsFound (rows_of tables.now) d found (option_or (model.block_of d request opening.now.client opening.now.path) (model.content_at d opening.now.path opening.now.base))) }
 {
@@ -218,7 +222,8 @@ fn own_content<'a>(
     contents: &'a Contents,
     opening: &Opening,
 ) -> Result<Found<'a>, AllocError>
-    ensures { IfOk result (λ found. (d : List Deed) (request : AnyRequest) → IsSound d → HasRows (rows_of tables.now) d table_ids.Rev → IsAsker d request.caller asker.now →
+    ensures { IfOk result (λ found. (d : List Deed) (request : AnyRequest) → IsSound d →
+        HasRows (rows_of tables.now) d table_ids.Rev → IsAsker d request.caller asker.now →
         contents.now ≡ request.contents → opening.now.client ≡ request.caller.client →
         IsFound (rows_of tables.now) d found (model.own_content d request (opening_of opening.now))) }
 {
@@ -270,7 +275,8 @@ pub fn content_of<'a>(
     contents: &'a Contents,
     opening: &Opening,
 ) -> Result<Found<'a>, AllocError>
-    ensures { IfOk result (λ found. (d : List Deed) (request : AnyRequest) → IsSound d → HasRows (rows_of tables.now) d table_ids.Rev → IsAsker d request.caller asker.now →
+    ensures { IfOk result (λ found. (d : List Deed) (request : AnyRequest) → IsSound d →
+        HasRows (rows_of tables.now) d table_ids.Rev → IsAsker d request.caller asker.now →
         contents.now ≡ request.contents → opening.now.client ≡ request.caller.client →
         IsFound (rows_of tables.now) d found (model.content_of d request (opening_of opening.now))) }
 {
@@ -294,7 +300,8 @@ pub fn lacks_content(
     contents: &Contents,
     opening: &Opening,
 ) -> Result<bool, AllocError>
-    ensures { IfOk result (λ lacks. (d : List Deed) (request : AnyRequest) → IsSound d → HasRows (rows_of tables.now) d table_ids.Rev → IsAsker d request.caller asker.now →
+    ensures { IfOk result (λ lacks. (d : List Deed) (request : AnyRequest) → IsSound d →
+        HasRows (rows_of tables.now) d table_ids.Rev → IsAsker d request.caller asker.now →
         contents.now ≡ request.contents → opening.now.client ≡ request.caller.client →
         lacks ≡ model.lacks_content d request (opening_of opening.now)) }
 {

@@ -42,7 +42,8 @@ pub fn block_given<'a>(
     contents: &'a Contents,
     opening: &Opening,
 ) -> Result<Option<&'a Text>, AllocError>
-    ensures { IfOk result (λ block. (d : List Deed) (request : AnyRequest) → IsSound d → HasRows (rows_of tables.now) d table_ids.Rev → IsAsker d request.caller asker.now →
+    ensures { IfOk result (λ block. (d : List Deed) (request : AnyRequest) → IsSound d →
+        HasRows (rows_of tables.now) d table_ids.Rev → IsAsker d request.caller asker.now →
         contents.now ≡ request.contents → opening.now.client ≡ request.caller.client →
         option_copied block ≡ model.block_given d request (opening_of opening.now)) }
 {

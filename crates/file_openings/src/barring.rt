@@ -69,7 +69,8 @@ pub fn barred_by(
     client: &Name,
     file_type: &Text,
 ) -> Result<Option<Name>, AllocError>
-    ensures { IfOk result (λ other. (d : List Deed) → IsSound d → HasRows (rows_of tables.now) d table_ids.Working → other ≡ model.barred_by d path.now client.now file_type.now) }
+    ensures { IfOk result (λ other. (d : List Deed) → IsSound d → HasRows (rows_of tables.now) d table_ids.Working →
+        other ≡ model.barred_by d path.now client.now file_type.now) }
 {
     rows_are_openings(tables);
     let exclusive = is_exclusive(file_type.as_bytes());

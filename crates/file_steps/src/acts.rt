@@ -36,7 +36,8 @@ pub trait FileAct {
         argument: &FileArgument,
         path: &DepotPath,
     ) -> Result<Step, AllocError>
-        ensures { IfOk result (λ step. (d e : List Deed) → reads self.now (rows_of tables.now) d → is_later self.now d e →
+        ensures { IfOk result (λ step. (d e : List Deed) → reads self.now (rows_of tables.now) d →
+            is_later self.now d e →
             IsMade (rows_of tables.now) d e (acts self.now d argument.now path.now) step) };
 
     ghost first: { (act : Self) (d : List Deed) → is_later act d d };
@@ -65,7 +66,8 @@ pub trait WalkAct<'t, S: FileSet> {
     ) -> Result<Sequence<DepotPath>, AllocError>
         ensures paths { IfOk result (λ paths. (d : List Deed) → S.reads set.now (rows_of tables.now) d →
             paths ≡ filter (S.names set.now d argument.now) (S.files set.now d)) }
-        ensures comes { IfOk result (λ _. (before : Argument) (d e : List Deed) → stands self.old set.now before (rows_of tables.now) d e →
+        ensures comes { IfOk result (λ _. (before : Argument) (d e : List Deed) →
+            stands self.old set.now before (rows_of tables.now) d e →
             stands self.new set.now argument.now (rows_of tables.now) d e) }
         ensures same { IfOk result (λ _. acts self.new ≡ acts self.old) };
 
@@ -77,9 +79,11 @@ pub trait WalkAct<'t, S: FileSet> {
         argument: &FileArgument,
         path: &DepotPath,
     ) -> Result<Step, AllocError>
-        ensures step { IfOk result (λ step. (set : S) (d e : List Deed) → stands self.old set argument.now (rows_of tables.now) d e →
+        ensures step { IfOk result (λ step. (set : S) (d e : List Deed) →
+            stands self.old set argument.now (rows_of tables.now) d e →
             IsMade (rows_of tables.now) d e (acts self.old d argument.now path.now) step) }
-        ensures comes { IfOk result (λ _. (set : S) (d e : List Deed) → stands self.old set argument.now (rows_of tables.now) d e →
+        ensures comes { IfOk result (λ _. (set : S) (d e : List Deed) →
+            stands self.old set argument.now (rows_of tables.now) d e →
             stands self.new set argument.now (rows_of tables.now) d (after e (acts self.old d argument.now path.now).deeds)) }
         ensures same { IfOk result (λ _. acts self.new ≡ acts self.old) };
 }

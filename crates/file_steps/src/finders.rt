@@ -35,9 +35,11 @@ pub trait FileFinder {
         tables: &Tables,
         argument: &FileArgument,
     ) -> Result<Sequence<DepotPath>, AllocError>
-        ensures { IfOk result (λ paths. (d : List Deed) → spells_path argument.now ≡ true → reads self.now (rows_of tables.now) d → paths ≡ found self.now d argument.now) };
+        ensures { IfOk result (λ paths. (d : List Deed) → spells_path argument.now ≡ true →
+            reads self.now (rows_of tables.now) d → paths ≡ found self.now d argument.now) };
 
     /// What is done for an argument that spells no file: it gives rows alone.
     fn missing(&self, alloc: Global, argument: &FileArgument) -> Result<Step, AllocError>
-        ensures { IfOk result (λ step. (all : AllRows) (d e : List Deed) → spells_path argument.now ≡ true → IsMade all d e (tells (rows_without self.now argument.now)) step) };
+        ensures { IfOk result (λ step. (all : AllRows) (d e : List Deed) → spells_path argument.now ≡ true →
+            IsMade all d e (tells (rows_without self.now argument.now)) step) };
 }

@@ -98,7 +98,8 @@ fn change_too_many(alloc: Global, deeds: &[Deed]) -> Result<bool, AllocError>
 
 /// The step, or where it changes more than 10,000 files, its refusal. The one error is want of memory.
 pub fn within_files(alloc: Global, step: Step) -> Result<Step, AllocError>
-    ensures { IfOk result (λ made. (all : AllRows) (d e : List ModelDeed) (model : ModelStep) → IsMade all d e model step → IsMade all d e (within_files_in model) made) }
+    ensures { IfOk result (λ made. (all : AllRows) (d e : List ModelDeed) (model : ModelStep) →
+        IsMade all d e model step → IsMade all d e (within_files_in model) made) }
 {
     let many = change_too_many(alloc, step.deeds.as_slice())?;
     if many {

@@ -26,7 +26,8 @@ fn is_taken<S: FileSet>(
     earlier: &[FileArgument],
     path: &DepotPath,
 ) -> Result<bool, AllocError>
-    ensures { IfOk result (λ taken. (d : List Deed) → S.reads set.now (rows_of tables.now) d → taken ≡ list_any (λ a. S.names set.now d a path.now) earlier.now) }
+    ensures { IfOk result (λ taken. (d : List Deed) → S.reads set.now (rows_of tables.now) d →
+        taken ≡ list_any (λ a. S.names set.now d a path.now) earlier.now) }
 {
     let mut rest = earlier;
     while let [argument, after @ ..] = rest {
@@ -64,7 +65,8 @@ pub fn named_among<S: FileSet>(
     argument: &FileArgument,
     candidates: Sequence<DepotPath>,
 ) -> Result<Sequence<DepotPath>, AllocError>
-    ensures { IfOk result (λ paths. (d : List Deed) → S.reads set.now (rows_of tables.now) d → paths ≡ filter (S.names set.now d argument.now) candidates) }
+    ensures { IfOk result (λ paths. (d : List Deed) → S.reads set.now (rows_of tables.now) d →
+        paths ≡ filter (S.names set.now d argument.now) candidates) }
 {
     let mut paths = Sequence::new(alloc);
     for path in candidates.into_vec() {
@@ -80,7 +82,8 @@ pub fn named_by<S: FileSet>(
     set: &S,
     argument: &FileArgument,
 ) -> Result<Sequence<DepotPath>, AllocError>
-    ensures { IfOk result (λ paths. (d : List Deed) → S.reads set.now (rows_of tables.now) d → paths ≡ filter (S.names set.now d argument.now) (S.files set.now d)) }
+    ensures { IfOk result (λ paths. (d : List Deed) → S.reads set.now (rows_of tables.now) d →
+        paths ≡ filter (S.names set.now d argument.now) (S.files set.now d)) }
 {
     let candidates = set.candidates(alloc, tables, argument)?;
     let named = named_among(alloc, tables, set, argument, candidates)?;
@@ -98,7 +101,8 @@ fn add_file<'t, S: FileSet, A: WalkAct<'t, S>>(
     argument: &FileArgument,
     path: &DepotPath,
 ) -> Result<(), AllocError>
-    ensures step { OnOk result ((d : List Deed) (model : ModelStep) → S.reads set.now (rows_of tables.now) d → Goes (A.stands act.old set.now argument.now (rows_of tables.now) d) (rows_of tables.now) d d model step.old →
+    ensures step { OnOk result ((d : List Deed) (model : ModelStep) → S.reads set.now (rows_of tables.now) d →
+        Goes (A.stands act.old set.now argument.now (rows_of tables.now) d) (rows_of tables.now) d d model step.old →
         Goes (A.stands act.new set.now argument.now (rows_of tables.now) d) (rows_of tables.now) d d (both model (if list_any (λ a. S.names set.now d a path.now) earlier.now then nothing else A.acts act.old d argument.now path.now)) step.new) }
     ensures same { OnOk result (A.acts act.new ≡ A.acts act.old) }
 {
@@ -122,7 +126,8 @@ fn add_files<'t, S: FileSet, A: WalkAct<'t, S>>(
     argument: &FileArgument,
     paths: &[DepotPath],
 ) -> Result<(), AllocError>
-    ensures step { OnOk result ((d : List Deed) (model : ModelStep) → S.reads set.now (rows_of tables.now) d → Goes (A.stands act.old set.now argument.now (rows_of tables.now) d) (rows_of tables.now) d d model step.old →
+    ensures step { OnOk result ((d : List Deed) (model : ModelStep) → S.reads set.now (rows_of tables.now) d →
+        Goes (A.stands act.old set.now argument.now (rows_of tables.now) d) (rows_of tables.now) d d model step.old →
         Goes (A.stands act.new set.now argument.now (rows_of tables.now) d) (rows_of tables.now) d d (both model (all_of (A.acts act.old d argument.now) (filter (λ path. not (list_any (λ a. S.names set.now d a path) earlier.now)) paths.now))) step.new) }
     ensures same { OnOk result (A.acts act.new ≡ A.acts act.old) }
 {
@@ -144,7 +149,8 @@ fn add_argument<'t, S: FileSet, A: WalkAct<'t, S>>(
     earlier: &[FileArgument],
     argument: &FileArgument,
 ) -> Result<(), AllocError>
-    ensures step { OnOk result ((before : Argument) (d : List Deed) (model : ModelStep) → S.reads set.now (rows_of tables.now) d →
+    ensures step { OnOk result ((before : Argument) (d : List Deed) (model : ModelStep) →
+        S.reads set.now (rows_of tables.now) d →
         Goes (A.stands act.old set.now before (rows_of tables.now) d) (rows_of tables.now) d d model step.old →
         Goes (A.stands act.new set.now argument.now (rows_of tables.now) d) (rows_of tables.now) d d (both model (each_or (tells (S.rows_without set.now argument.now)) (A.acts act.old d argument.now)
         (filter (S.names set.now d argument.now) (S.files set.now d))
@@ -179,7 +185,8 @@ pub fn walk_over<'t, S: FileSet, A: WalkAct<'t, S>>(
     act: &mut A,
     arguments: &[FileArgument],
 ) -> Result<Step, AllocError>
-    ensures { IfOk result (λ step. (before : Argument) (d : List Deed) → S.reads set.now (rows_of tables.now) d → A.stands act.old set.now before (rows_of tables.now) d d →
+    ensures { IfOk result (λ step. (before : Argument) (d : List Deed) → S.reads set.now (rows_of tables.now) d →
+        A.stands act.old set.now before (rows_of tables.now) d d →
         IsMade (rows_of tables.now) d d (over_in (λ a. filter (S.names set.now d a) (S.files set.now d)) (λ a. tells (S.rows_without set.now a)) (A.acts act.old d) [] arguments.now) step) }
 {
     let mut step = Step::new(alloc);
@@ -200,7 +207,8 @@ pub fn over<S: FileSet, A: FileAct>(
     act: &A,
     arguments: &[FileArgument],
 ) -> Result<Step, AllocError>
-    ensures { IfOk result (λ step. (d : List Deed) → S.reads set.now (rows_of tables.now) d → A.reads act.now (rows_of tables.now) d →
+    ensures { IfOk result (λ step. (d : List Deed) → S.reads set.now (rows_of tables.now) d →
+        A.reads act.now (rows_of tables.now) d →
         IsMade (rows_of tables.now) d d (over_in (λ a. filter (S.names set.now d a) (S.files set.now d)) (λ a. tells (S.rows_without set.now a)) (A.acts act.now d) [] arguments.now) step) }
 {
     let mut placeless = Placeless { act };
@@ -228,7 +236,8 @@ fn walk_over_everything<'t, S: FileSet, A: WalkAct<'t, S>>(
     set: &S,
     act: &mut A,
 ) -> Result<Step, AllocError>
-    ensures { IfOk result (λ step. (before : Argument) (d : List Deed) → S.reads set.now (rows_of tables.now) d → A.stands act.old set.now before (rows_of tables.now) d d →
+    ensures { IfOk result (λ step. (before : Argument) (d : List Deed) → S.reads set.now (rows_of tables.now) d →
+        A.stands act.old set.now before (rows_of tables.now) d d →
         IsMade (rows_of tables.now) d d (over_in (λ a. filter (S.names set.now d a) (S.files set.now d)) (λ _. nothing) (A.acts act.old d) [] (everything ∷ [])) step) }
 {
     let mut step = Step::new(alloc);
@@ -257,7 +266,8 @@ pub fn walk_over_all<'t, S: FileSet, A: WalkAct<'t, S>>(
     act: &mut A,
     arguments: &[FileArgument],
 ) -> Result<Step, AllocError>
-    ensures { IfOk result (λ step. (before : Argument) (d : List Deed) → S.reads set.now (rows_of tables.now) d → A.stands act.old set.now before (rows_of tables.now) d d →
+    ensures { IfOk result (λ step. (before : Argument) (d : List Deed) → S.reads set.now (rows_of tables.now) d →
+        A.stands act.old set.now before (rows_of tables.now) d d →
         IsMade (rows_of tables.now) d d (over_all_in (λ a. filter (S.names set.now d a) (S.files set.now d)) (λ a. tells (S.rows_without set.now a)) (A.acts act.old d) arguments.now) step) }
 {
     if arguments.is_empty() {
@@ -275,7 +285,8 @@ pub fn over_all<S: FileSet, A: FileAct>(
     act: &A,
     arguments: &[FileArgument],
 ) -> Result<Step, AllocError>
-    ensures { IfOk result (λ step. (d : List Deed) → S.reads set.now (rows_of tables.now) d → A.reads act.now (rows_of tables.now) d →
+    ensures { IfOk result (λ step. (d : List Deed) → S.reads set.now (rows_of tables.now) d →
+        A.reads act.now (rows_of tables.now) d →
         IsMade (rows_of tables.now) d d (over_all_in (λ a. filter (S.names set.now d a) (S.files set.now d)) (λ a. tells (S.rows_without set.now a)) (A.acts act.now d) arguments.now) step) }
 {
     let mut placeless = Placeless { act };

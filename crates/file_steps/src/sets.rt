@@ -47,9 +47,11 @@ pub trait FileSet {
         argument: &FileArgument,
         path: &DepotPath,
     ) -> Result<bool, AllocError>
-        ensures { IfOk result (λ named. (d : List Deed) → reads self.now (rows_of tables.now) d → named ≡ names self.now d argument.now path.now) };
+        ensures { IfOk result (λ named. (d : List Deed) → reads self.now (rows_of tables.now) d →
+            named ≡ names self.now d argument.now path.now) };
 
     /// What is done for an argument that names no file: it gives rows alone.
     fn missing(&self, alloc: Global, argument: &FileArgument) -> Result<Step, AllocError>
-        ensures { IfOk result (λ step. (all : AllRows) (d e : List Deed) → IsMade all d e (tells (rows_without self.now argument.now)) step) };
+        ensures { IfOk result (λ step. (all : AllRows) (d e : List Deed) →
+            IsMade all d e (tells (rows_without self.now argument.now)) step) };
 }

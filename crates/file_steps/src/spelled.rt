@@ -39,7 +39,8 @@ fn add_file<A: FileAct>(
     argument: &FileArgument,
     path: &DepotPath,
 ) -> Result<(), AllocError>
-    ensures { OnOk result ((d : List Deed) (model : ModelStep) → A.reads act.now (rows_of tables.now) d → Goes (A.is_later act.now d) (rows_of tables.now) d d model step.old →
+    ensures { OnOk result ((d : List Deed) (model : ModelStep) → A.reads act.now (rows_of tables.now) d →
+        Goes (A.is_later act.now d) (rows_of tables.now) d d model step.old →
         Goes (A.is_later act.now d) (rows_of tables.now) d d (both model (if is_in taken.now path.now then nothing else A.acts act.now d argument.now path.now)) step.new) }
 {
     if taken.contains(path) {
@@ -60,7 +61,8 @@ fn add_files<A: FileAct>(
     argument: &FileArgument,
     paths: &[DepotPath],
 ) -> Result<(), AllocError>
-    ensures { OnOk result ((d : List Deed) (model : ModelStep) → A.reads act.now (rows_of tables.now) d → Goes (A.is_later act.now d) (rows_of tables.now) d d model step.old →
+    ensures { OnOk result ((d : List Deed) (model : ModelStep) → A.reads act.now (rows_of tables.now) d →
+        Goes (A.is_later act.now d) (rows_of tables.now) d d model step.old →
         Goes (A.is_later act.now d) (rows_of tables.now) d d (both model (all_of (A.acts act.now d argument.now) (not_in taken.now paths.now))) step.new) }
 {
     let mut rest = paths;
@@ -81,11 +83,13 @@ fn add_argument<F: FileFinder, A: FileAct>(
     taken: &mut PathSet,
     argument: &FileArgument,
 ) -> Result<(), AllocError>
-    ensures goes { OnOk result ((d : List Deed) (model : ModelStep) → spells_path argument.now ≡ true → F.reads finder.now (rows_of tables.now) d → A.reads act.now (rows_of tables.now) d →
+    ensures goes { OnOk result ((d : List Deed) (model : ModelStep) → spells_path argument.now ≡ true →
+        F.reads finder.now (rows_of tables.now) d → A.reads act.now (rows_of tables.now) d →
         Goes (A.is_later act.now d) (rows_of tables.now) d d model step.old →
         Goes (A.is_later act.now d) (rows_of tables.now) d d (both model (each_or (tells (F.rows_without finder.now argument.now)) (A.acts act.now d argument.now)
         (F.found finder.now d argument.now) (not_in taken.old (F.found finder.now d argument.now)))) step.new) }
-    ensures taken { OnOk result ((d : List Deed) → spells_path argument.now ≡ true → F.reads finder.now (rows_of tables.now) d → (path : List ℕ) →
+    ensures taken { OnOk result ((d : List Deed) → spells_path argument.now ≡ true →
+        F.reads finder.now (rows_of tables.now) d → (path : List ℕ) →
         is_in taken.new path ≡ is_in (taken.old ++ F.found finder.now d argument.now) path) }
 {
     let paths = finder.find(alloc, tables, argument)?;
@@ -108,7 +112,8 @@ pub fn over_found<F: FileFinder, A: FileAct>(
     act: &A,
     arguments: &[FileArgument],
 ) -> Result<Step, AllocError>
-    ensures { IfOk result (λ step. (d : List Deed) → list_all spells_path arguments.now ≡ true → F.reads finder.now (rows_of tables.now) d → A.reads act.now (rows_of tables.now) d →
+    ensures { IfOk result (λ step. (d : List Deed) → list_all spells_path arguments.now ≡ true →
+        F.reads finder.now (rows_of tables.now) d → A.reads act.now (rows_of tables.now) d →
         IsMade (rows_of tables.now) d d (over_in (F.found finder.now d) (λ a. tells (F.rows_without finder.now a)) (A.acts act.now d) [] arguments.now) step) }
 {
     let mut step = Step::new(alloc);

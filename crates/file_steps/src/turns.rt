@@ -23,8 +23,10 @@ pub trait TurnAct {
 
     /// What is done with the next file.
     fn act(&mut self, alloc: Global, tables: &Tables, path: &DepotPath) -> Result<Step, AllocError>
-        ensures step { IfOk result (λ step. (d e : List Deed) → stands self.old (rows_of tables.now) d e → IsMade (rows_of tables.now) d e (acts self.old d e path.now) step) }
-        ensures comes { IfOk result (λ _. (d e : List Deed) → stands self.old (rows_of tables.now) d e → stands self.new (rows_of tables.now) d (after e (acts self.old d e path.now).deeds)) }
+        ensures step { IfOk result (λ step. (d e : List Deed) → stands self.old (rows_of tables.now) d e →
+            IsMade (rows_of tables.now) d e (acts self.old d e path.now) step) }
+        ensures comes { IfOk result (λ _. (d e : List Deed) → stands self.old (rows_of tables.now) d e →
+            stands self.new (rows_of tables.now) d (after e (acts self.old d e path.now).deeds)) }
         ensures same { IfOk result (λ _. acts self.new ≡ acts self.old) };
 }
 
@@ -36,7 +38,8 @@ fn add_turn<A: TurnAct>(
     step: &mut Step,
     path: &DepotPath,
 ) -> Result<(), AllocError>
-    ensures step { OnOk result ((d e : List Deed) (model : ModelStep) → Goes (A.stands act.old (rows_of tables.now) d) (rows_of tables.now) d e model step.old →
+    ensures step { OnOk result ((d e : List Deed) (model : ModelStep) →
+        Goes (A.stands act.old (rows_of tables.now) d) (rows_of tables.now) d e model step.old →
         Goes (A.stands act.new (rows_of tables.now) d) (rows_of tables.now) d e (both model (A.acts act.old d (after e model.deeds) path.now)) step.new) }
     ensures same { OnOk result (A.acts act.new ≡ A.acts act.old) }
 {
@@ -53,7 +56,8 @@ pub fn in_turn<A: TurnAct>(
     act: &mut A,
     paths: &[DepotPath],
 ) -> Result<Step, AllocError>
-    ensures { IfOk result (λ step. (d e : List Deed) → A.stands act.old (rows_of tables.now) d e → IsMade (rows_of tables.now) d e (in_turn_in (A.acts act.old d) e paths.now) step) }
+    ensures { IfOk result (λ step. (d e : List Deed) → A.stands act.old (rows_of tables.now) d e →
+        IsMade (rows_of tables.now) d e (in_turn_in (A.acts act.old d) e paths.now) step) }
 {
     let mut step = Step::new(alloc);
     let mut rest = paths;

@@ -85,7 +85,8 @@ pub fn have(
     asker: &Asker,
     arguments: &[FileArgument],
 ) -> Result<Step, AllocError>
-    ensures { IfOk result (λ step. (d : List Deed) → IsSound d → IsAsker d caller.now asker.now → HasRows (rows_of tables.now) d table_ids.Have →
+    ensures { IfOk result (λ step. (d : List Deed) → IsSound d → IsAsker d caller.now asker.now →
+        HasRows (rows_of tables.now) d table_ids.Have →
         IsMade (rows_of tables.now) d d (model.have_step d caller.now arguments.now) step) }
 {
     let listing = Listing::had_by(&caller.client)?;

@@ -56,7 +56,8 @@ impl<'a> Places<'a> {
         set: &ShownFiles<'_>,
         argument: &FileArgument,
     ) -> Result<Sequence<DepotPath>, AllocError>
-        ensures paths { IfOk result (λ paths. (d : List Deed) → ShownReads set.now.caller.now set.now.asker.now set.now.listing.now (rows_of tables.now) d →
+        ensures paths { IfOk result (λ paths. (d : List Deed) →
+            ShownReads set.now.caller.now set.now.asker.now set.now.listing.now (rows_of tables.now) d →
             filter (names_file false d set.now.caller.now argument.now.spec) paths ≡ filter (names_file false d set.now.caller.now argument.now.spec) (files_of set.now.listing.now d)) }
         ensures places { IfOk result (λ _. AreOf (rows_of tables.now) self.old → AreOf (rows_of tables.now) self.new) }
     {
@@ -74,8 +75,10 @@ impl<'a> Places<'a> {
         wanted: &Wanted,
     ) -> Result<Option<Revision<'a>>, AllocError>
         ensures places { IfOk result (λ _. (rows : AllRows) → AreOf rows self.old → AreOf rows self.new) }
-        ensures choice { IfOk result (λ found. (d : List Deed) → AreOf (rows_of tables.now) self.old → IsSound d → HasRows (rows_of tables.now) d table_ids.Rev →
-            HaveRows (rows_of tables.now) d (wanted_tables wanted.now) → IsAt d path.now (chosen d caller.now path.now wanted.now) found) }
+        ensures choice { IfOk result (λ found. (d : List Deed) → AreOf (rows_of tables.now) self.old → IsSound d →
+            HasRows (rows_of tables.now) d table_ids.Rev →
+            HaveRows (rows_of tables.now) d (wanted_tables wanted.now) →
+            IsAt d path.now (chosen d caller.now path.now wanted.now) found) }
     {
         let found = self.heads.choice(alloc, tables, caller, path, wanted)?;
         Ok(found)
@@ -91,7 +94,8 @@ impl<'a> Places<'a> {
         path: &DepotPath,
     ) -> Result<u32, AllocError>
         ensures places { IfOk result (λ _. (rows : AllRows) → AreOf rows self.old → AreOf rows self.new) }
-        ensures have { IfOk result (λ rev. (d : List Deed) → AreOf (rows_of tables.now) self.old → HasRows (rows_of tables.now) d table_ids.Have → rev ≡ have d client.now path.now) }
+        ensures have { IfOk result (λ rev. (d : List Deed) → AreOf (rows_of tables.now) self.old →
+            HasRows (rows_of tables.now) d table_ids.Have → rev ≡ have d client.now path.now) }
     {
         let key = have_key(alloc, client, path)?;
         let row = self.haves.get(&key);

@@ -187,7 +187,8 @@ pub fn where_is(
     asker: &Asker,
     arguments: &[FileArgument],
 ) -> Result<Step, AllocError>
-    ensures { IfOk result (λ step. (d : List Deed) → list_all spells_path arguments.now ≡ true → IsAsker d caller.now asker.now →
+    ensures { IfOk result (λ step. (d : List Deed) → list_all spells_path arguments.now ≡ true →
+        IsAsker d caller.now asker.now →
         IsMade (rows_of tables.now) d d (model.where_is d caller.now arguments.now) step) }
 {
     let files = ToldFiles { caller, asker };

@@ -79,7 +79,8 @@ pub(crate) fn shown_row(
     found: Revision<'_>,
     action: &[u8],
 ) -> Result<Row, AllocError>
-    ensures { IfOk result (λ row. (d : List Deed) (caller : Caller) → IsAsker d caller asker.now → HasRow d path.now found.entry →
+    ensures { IfOk result (λ row. (d : List Deed) (caller : Caller) → IsAsker d caller asker.now →
+        HasRow d path.now found.entry →
         row ≡ model.sync_row d caller path.now found.entry.rev action.now (model.size_of d path.now found.entry.rev)) }
 {
     let place = asker.place(alloc, path)?;
@@ -96,7 +97,8 @@ fn gone_row(
     had: u32,
     action: &[u8],
 ) -> Result<Row, AllocError>
-    ensures { IfOk result (λ row. (d : List Deed) (caller : Caller) → IsAsker d caller asker.now → row ≡ model.sync_row d caller path.now had action.now None) }
+    ensures { IfOk result (λ row. (d : List Deed) (caller : Caller) → IsAsker d caller asker.now →
+        row ≡ model.sync_row d caller path.now had action.now None) }
 {
     let place = asker.place(alloc, path)?;
     let row = sync_row(alloc, path, &place, had, action, None)?;
@@ -112,7 +114,8 @@ pub(crate) fn changed_row(
     wanted: Revision<'_>,
     action: &[u8],
 ) -> Result<Row, AllocError>
-    ensures { IfOk result (λ row. (d : List Deed) (caller : Caller) → IsAsker d caller asker.now → HasRow d path.now wanted.entry →
+    ensures { IfOk result (λ row. (d : List Deed) (caller : Caller) → IsAsker d caller asker.now →
+        HasRow d path.now wanted.entry →
         row ≡ row_of_change d caller path.now had wanted.entry.rev action.now) }
 {
     let gone = wanted.rev == 0;

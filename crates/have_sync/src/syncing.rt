@@ -69,7 +69,8 @@ fn get(
     wanted: Revision<'_>,
     word: &[u8],
 ) -> Result<Step, AllocError>
-    ensures { IfOk result (λ step. (all : AllRows) (d e : List Deed) → IsAsker d caller.now asker.now → HasRow d path.now wanted.entry →
+    ensures { IfOk result (λ step. (all : AllRows) (d e : List Deed) → IsAsker d caller.now asker.now →
+        HasRow d path.now wanted.entry →
         IsMade all d e (get_step d caller.now path.now had wanted.entry.rev word.now) step) }
 {
     // the bytes of a path are one
@@ -98,7 +99,8 @@ fn sync_have(
     wanted: Revision<'_>,
 ) -> Result<Step, AllocError>
     ensures places { IfOk result (λ _. (rows : AllRows) → AreOf rows places.old → AreOf rows places.new) }
-    ensures step { IfOk result (λ step. (d e : List Deed) → Reads caller.now asker.now (rows_of tables.now) d → AreOf (rows_of tables.now) places.old → HasRow d path.now wanted.entry →
+    ensures step { IfOk result (λ step. (d e : List Deed) → Reads caller.now asker.now (rows_of tables.now) d →
+        AreOf (rows_of tables.now) places.old → HasRow d path.now wanted.entry →
         IsMade (rows_of tables.now) d e (model.sync_have again d caller.now path.now wanted.entry.rev) step) }
 {
     let had = places.have(alloc, tables, &caller.client, path)?;
@@ -151,7 +153,8 @@ fn owe(
     found: Revision<'_>,
 ) -> Result<Step, AllocError>
     requires { base < found.rev }
-    ensures { IfOk result (λ step. (all : AllRows) (d e : List Deed) → IsAsker d caller.now asker.now → HasRow d path.now found.entry →
+    ensures { IfOk result (λ step. (all : AllRows) (d e : List Deed) → IsAsker d caller.now asker.now →
+        HasRow d path.now found.entry →
         IsMade all d e (owe_step d caller.now path.now base found.entry.rev) step) }
 {
     // the bytes of a path are one
@@ -172,7 +175,8 @@ fn sync_opened(
     base: u32,
     found: Revision<'_>,
 ) -> Result<Step, AllocError>
-    ensures { IfOk result (λ step. (d e : List Deed) (o : Opening) → Reads caller.now asker.now (rows_of tables.now) d → HasRow d path.now found.entry → o.base ≡ base →
+    ensures { IfOk result (λ step. (d e : List Deed) (o : Opening) → Reads caller.now asker.now (rows_of tables.now) d →
+        HasRow d path.now found.entry → o.base ≡ base →
         IsMade (rows_of tables.now) d e (model.sync_opened d caller.now o path.now found.entry.rev) step) }
 {
     let current = found.rev <= base;
@@ -200,7 +204,8 @@ fn is_shown(
     argument: &FileArgument,
     path: &DepotPath,
 ) -> Result<bool, AllocError>
-    ensures { IfOk result (λ shown. (d : List Deed) → Reads caller.now asker.now (rows_of tables.now) d → shown ≡ is_some (shown_in d caller.now argument.now.spec.wanted path.now)) }
+    ensures { IfOk result (λ shown. (d : List Deed) → Reads caller.now asker.now (rows_of tables.now) d →
+        shown ≡ is_some (shown_in d caller.now argument.now.spec.wanted path.now)) }
 {
     let wanted = &argument.spec.wanted;
     let place = shown_by(alloc, tables, caller, &asker.view, path, wanted)?;
@@ -220,7 +225,8 @@ fn wanted_of<'t>(
     path: &DepotPath,
     found: Revision<'t>,
 ) -> Result<Revision<'t>, AllocError>
-    ensures rev { IfOk result (λ wanted. (d : List Deed) → Reads caller.now asker.now (rows_of tables.now) d → HasRow d path.now found.entry →
+    ensures rev { IfOk result (λ wanted. (d : List Deed) → Reads caller.now asker.now (rows_of tables.now) d →
+        HasRow d path.now found.entry →
         wanted.rev ≡ model.wanted_rev d caller.now argument.now path.now found.entry.rev) }
     ensures row { IfOk result (λ wanted. (d : List Deed) → HasRow d path.now found.entry → HasRow d path.now wanted) }
 {
@@ -246,7 +252,8 @@ fn sync_at(
     found: Revision<'_>,
 ) -> Result<Step, AllocError>
     ensures places { IfOk result (λ _. (rows : AllRows) → AreOf rows places.old → AreOf rows places.new) }
-    ensures step { IfOk result (λ step. (d e : List Deed) → Reads caller.now asker.now (rows_of tables.now) d → AreOf (rows_of tables.now) places.old → HasRow d path.now found.entry →
+    ensures step { IfOk result (λ step. (d e : List Deed) → Reads caller.now asker.now (rows_of tables.now) d →
+        AreOf (rows_of tables.now) places.old → HasRow d path.now found.entry →
         IsMade (rows_of tables.now) d e (model.sync_to again d caller.now argument.now path.now (choices.At found.entry.rev)) step) }
 {
     let row = opening_of(alloc, tables, &caller.client, path)?;
@@ -275,7 +282,8 @@ fn sync_to<'a>(
     path: &DepotPath,
 ) -> Result<Step, AllocError>
     ensures places { IfOk result (λ _. (rows : AllRows) → AreOf rows places.old → AreOf rows places.new) }
-    ensures step { IfOk result (λ step. (d e : List Deed) → Reads caller.now asker.now (rows_of tables.now) d → AreOf (rows_of tables.now) places.old →
+    ensures step { IfOk result (λ step. (d e : List Deed) → Reads caller.now asker.now (rows_of tables.now) d →
+        AreOf (rows_of tables.now) places.old →
         IsMade (rows_of tables.now) d e
         (model.sync_to again d caller.now argument.now path.now (chosen d caller.now path.now argument.now.spec.wanted)) step) }
 {
@@ -380,9 +388,12 @@ pub fn sync(
     shows: bool,
     arguments: &[FileArgument],
 ) -> Result<Step, AllocError>
-    ensures { IfOk result (λ step. (d : List Deed) → IsSound d → IsAsker d caller.now asker.now → HasRows (rows_of tables.now) d table_ids.Domain →
-        HasRows (rows_of tables.now) d table_ids.Have → HasRows (rows_of tables.now) d table_ids.Label → HasRows (rows_of tables.now) d table_ids.Resolve →
-        HasRows (rows_of tables.now) d table_ids.Working → HasRows (rows_of tables.now) d table_ids.Change → HasRows (rows_of tables.now) d table_ids.Rev →
+    ensures { IfOk result (λ step. (d : List Deed) → IsSound d → IsAsker d caller.now asker.now →
+        HasRows (rows_of tables.now) d table_ids.Domain →
+        HasRows (rows_of tables.now) d table_ids.Have → HasRows (rows_of tables.now) d table_ids.Label →
+        HasRows (rows_of tables.now) d table_ids.Resolve →
+        HasRows (rows_of tables.now) d table_ids.Working → HasRows (rows_of tables.now) d table_ids.Change →
+        HasRows (rows_of tables.now) d table_ids.Rev →
         IsMade (rows_of tables.now) d d (model.sync d caller.now again shows arguments.now) step) }
 {
     let listing = Listing::Submitted;

@@ -54,7 +54,8 @@ fn shelf_beginning(alloc: Global, number: u32) -> Result<Text, AllocError>
 /// Whether a change has shelved files (Command-Line Reference, "p4 shelve"), from the table of forms alone. It looks at
 /// the forms of that change, and reads them until one is of a file that is kept.
 pub fn is_shelved(alloc: Global, tables: &Tables, change: u32) -> Result<bool, AllocError>
-    ensures { IfOk result (λ shelved. (d : List Deed) → IsSound d → HasRows (rows_of tables.now) d table_ids.Domain → shelved ≡ is_shelved_in d change) }
+    ensures { IfOk result (λ shelved. (d : List Deed) → IsSound d → HasRows (rows_of tables.now) d table_ids.Domain →
+        shelved ≡ is_shelved_in d change) }
 {
     let number = digits(alloc, change)?;
     let spelled = number.as_bytes();
@@ -72,7 +73,8 @@ pub fn is_shelved(alloc: Global, tables: &Tables, change: u32) -> Result<bool, A
 /// Whether a change fixes jobs (Command-Line Reference, "p4 fix"), from the table of forms alone. It reads the fixes by
 /// the change.
 pub fn is_fixing(alloc: Global, tables: &Tables, change: u32) -> Result<bool, AllocError>
-    ensures { IfOk result (λ fixing. (d : List Deed) → IsSound d → HasRows (rows_of tables.now) d table_ids.Domain → fixing ≡ is_fixing_in d change) }
+    ensures { IfOk result (λ fixing. (d : List Deed) → IsSound d → HasRows (rows_of tables.now) d table_ids.Domain →
+        fixing ≡ is_fixing_in d change) }
 {
     let fixes = fixes_of(alloc, tables, change)?;
     Ok(!fixes.as_slice().is_empty())

@@ -49,7 +49,8 @@ pub(crate) trait ChoiceAct {
         path: &DepotPath,
         row: Option<&RevRecord>,
     ) -> Result<Step, AllocError>
-        ensures { IfOk result (λ step. (d e : List Deed) (argument : Argument) → reads self.now caller.now (rows_of tables.now) d →
+        ensures { IfOk result (λ step. (d e : List Deed) (argument : Argument) →
+            reads self.now caller.now (rows_of tables.now) d →
             IsChoice (rows_of tables.now) d caller.now argument.spec.wanted path.now (option_copied row.entry) →
             IsMade (rows_of tables.now) d e (acts self.now d caller.now argument path.now) step) };
 }
@@ -73,10 +74,12 @@ fn add_chosen<'t>(
     path: DepotPath,
 ) -> Result<(), AllocError>
     ensures heads { OnOk result ((rows : List Stored) → AreHeads rows heads.old → AreHeads rows heads.new) }
-    ensures paths { OnOk result ((d : List Deed) → ShownReads shown.now.caller.now shown.now.asker.now shown.now.listing.now (rows_of tables.now) d →
+    ensures paths { OnOk result ((d : List Deed) →
+        ShownReads shown.now.caller.now shown.now.asker.now shown.now.listing.now (rows_of tables.now) d →
         AreHeads (rows_of tables.now table_ids.Rev) heads.old →
         found.new.paths ≡ found.old.paths ++ (if is_listed shown.now.caller.now d argument.now path then path ∷ [] else [])) }
-    ensures rows { OnOk result ((d : List Deed) → ChoiceReads (rows_of tables.now) d → AreHeads (rows_of tables.now table_ids.Rev) heads.old →
+    ensures rows { OnOk result ((d : List Deed) → ChoiceReads (rows_of tables.now) d →
+        AreHeads (rows_of tables.now table_ids.Rev) heads.old →
         All (IsChosen (rows_of tables.now) d shown.now.caller.now argument.now.spec.wanted) (map (λ r. r.now) found.old.rows.items) →
         All (IsChosen (rows_of tables.now) d shown.now.caller.now argument.now.spec.wanted) (map (λ r. r.now) found.new.rows.items)) }
 {
@@ -106,9 +109,12 @@ fn chosen_among<'t>(
     argument: &FileArgument,
     candidates: Sequence<DepotPath>,
 ) -> Result<ChosenRows<'t>, AllocError>
-    ensures paths { IfOk result (λ found. (d : List Deed) → ShownReads shown.now.caller.now shown.now.asker.now shown.now.listing.now (rows_of tables.now) d →
-        AreHeads (rows_of tables.now table_ids.Rev) heads.old → found.paths ≡ filter (is_listed shown.now.caller.now d argument.now) candidates) }
-    ensures rows { IfOk result (λ found. (d : List Deed) → ChoiceReads (rows_of tables.now) d → AreHeads (rows_of tables.now table_ids.Rev) heads.old →
+    ensures paths { IfOk result (λ found. (d : List Deed) →
+        ShownReads shown.now.caller.now shown.now.asker.now shown.now.listing.now (rows_of tables.now) d →
+        AreHeads (rows_of tables.now table_ids.Rev) heads.old →
+        found.paths ≡ filter (is_listed shown.now.caller.now d argument.now) candidates) }
+    ensures rows { IfOk result (λ found. (d : List Deed) → ChoiceReads (rows_of tables.now) d →
+        AreHeads (rows_of tables.now table_ids.Rev) heads.old →
         All (IsChosen (rows_of tables.now) d shown.now.caller.now argument.now.spec.wanted) (map (λ r. r.now) found.rows.items)) }
 {
     let mut found = ChosenRows {
@@ -130,9 +136,11 @@ fn candidates_of<'t>(
     heads: &mut SeenRows<'t>,
     argument: &FileArgument,
 ) -> Result<Sequence<DepotPath>, AllocError>
-    ensures paths { IfOk result (λ paths. (d : List Deed) → ShownReads shown.now.caller.now shown.now.asker.now shown.now.listing.now (rows_of tables.now) d →
+    ensures paths { IfOk result (λ paths. (d : List Deed) →
+        ShownReads shown.now.caller.now shown.now.asker.now shown.now.listing.now (rows_of tables.now) d →
         filter (is_listed shown.now.caller.now d argument.now) paths ≡ filter (is_listed shown.now.caller.now d argument.now) (files_of shown.now.listing.now d)) }
-    ensures heads { IfOk result (λ _. AreHeads (rows_of tables.now table_ids.Rev) heads.old → AreHeads (rows_of tables.now table_ids.Rev) heads.new) }
+    ensures heads { IfOk result (λ _. AreHeads (rows_of tables.now table_ids.Rev) heads.old →
+        AreHeads (rows_of tables.now table_ids.Rev) heads.new) }
 {
     if asks_for_none(&argument.spec.wanted) {
         let newest = heads.find(alloc, tables, shown, argument)?;
@@ -154,7 +162,8 @@ fn chosen_by<'t>(
     set: &ChosenFiles<'_>,
     argument: &FileArgument,
 ) -> Result<ChosenRows<'t>, AllocError>
-    ensures paths { IfOk result (λ found. (d : List Deed) → ShownReads set.now.caller.now set.now.asker.now set.now.listing.now (rows_of tables.now) d →
+    ensures paths { IfOk result (λ found. (d : List Deed) →
+        ShownReads set.now.caller.now set.now.asker.now set.now.listing.now (rows_of tables.now) d →
         found.paths ≡ filter (is_listed set.now.caller.now d argument.now) (files_of set.now.listing.now d)) }
     ensures rows { IfOk result (λ found. (d : List Deed) → ChoiceReads (rows_of tables.now) d →
         All (IsChosen (rows_of tables.now) d set.now.caller.now argument.now.spec.wanted) (map (λ r. r.now) found.rows.items)) }
@@ -181,7 +190,8 @@ fn choice<'t>(
     wanted: &Wanted,
 ) -> Result<Option<&'t RevRecord>, AllocError>
     ensures rows { IfOk result (λ _. kept seen.new ≡ kept seen.old) }
-    ensures choice { IfOk result (λ row. (d : List Deed) → ChoiceReads (rows_of tables.now) d → AreChosen (rows_of tables.now) d caller.now wanted.now seen.old →
+    ensures choice { IfOk result (λ row. (d : List Deed) → ChoiceReads (rows_of tables.now) d →
+        AreChosen (rows_of tables.now) d caller.now wanted.now seen.old →
         IsChoice (rows_of tables.now) d caller.now wanted.now path.now (option_copied row)) }
 {
     let text = path.print(alloc)?;
@@ -248,7 +258,8 @@ pub(crate) fn over_chosen<A: ChoiceAct>(
     act: &A,
     arguments: &[FileArgument],
 ) -> Result<Step, AllocError>
-    ensures { IfOk result (λ step. (d : List Deed) → IsAsker d caller.now asker.now → ChoiceReads (rows_of tables.now) d → A.reads act.now caller.now (rows_of tables.now) d →
+    ensures { IfOk result (λ step. (d : List Deed) → IsAsker d caller.now asker.now →
+        ChoiceReads (rows_of tables.now) d → A.reads act.now caller.now (rows_of tables.now) d →
         IsMade (rows_of tables.now) d d (over_in (listed d caller.now) told_without (A.acts act.now d caller.now) [] arguments.now) step) }
 {
     let listing = Listing::Submitted;

@@ -100,9 +100,11 @@ fn add_argument(
     taken: &mut TextSet,
     argument: &FileArgument,
 ) -> Result<(), AllocError>
-    ensures rows { OnOk result ((d : List Deed) → IsSound d → IsAsker d caller.now asker.now → HasRows (rows_of tables.now) d table_ids.Rev →
+    ensures rows { OnOk result ((d : List Deed) → IsSound d → IsAsker d caller.now asker.now →
+        HasRows (rows_of tables.now) d table_ids.Rev →
         rows.new ≡ rows.old ++ (missing_rows argument.now (texts_of d caller.now argument.now) ++ new_rows taken.old (texts_of d caller.now argument.now))) }
-    ensures taken { OnOk result ((d : List Deed) → IsSound d → IsAsker d caller.now asker.now → HasRows (rows_of tables.now) d table_ids.Rev →
+    ensures taken { OnOk result ((d : List Deed) → IsSound d → IsAsker d caller.now asker.now →
+        HasRows (rows_of tables.now) d table_ids.Rev →
         taken.new ≡ taken_after taken.old (texts_of d caller.now argument.now)) }
 {
     let found = directories(alloc, tables, caller, asker, &argument.spec.pattern)?;
@@ -120,7 +122,8 @@ fn rows_for(
     asker: &Asker,
     arguments: &[FileArgument],
 ) -> Result<Sequence<Row>, AllocError>
-    ensures { IfOk result (λ rows. (d : List Deed) → IsSound d → IsAsker d caller.now asker.now → HasRows (rows_of tables.now) d table_ids.Rev →
+    ensures { IfOk result (λ rows. (d : List Deed) → IsSound d → IsAsker d caller.now asker.now →
+        HasRows (rows_of tables.now) d table_ids.Rev →
         rows ≡ told_after d caller.now [] arguments.now) }
 {
     let mut rows = Sequence::new(alloc);
@@ -145,7 +148,8 @@ pub fn dirs(
     asker: &Asker,
     arguments: &[FileArgument],
 ) -> Result<Step, AllocError>
-    ensures { IfOk result (λ step. (d : List Deed) → IsSound d → IsAsker d caller.now asker.now → HasRows (rows_of tables.now) d table_ids.Rev →
+    ensures { IfOk result (λ step. (d : List Deed) → IsSound d → IsAsker d caller.now asker.now →
+        HasRows (rows_of tables.now) d table_ids.Rev →
         IsMade (rows_of tables.now) d d (model.dirs d caller.now arguments.now) step) }
 {
     let rows = rows_for(alloc, tables, caller, asker, arguments)?;

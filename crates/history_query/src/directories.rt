@@ -106,7 +106,8 @@ fn seen_of(
     pattern: &Pattern,
     path: DepotPath,
 ) -> Result<Option<DepotPath>, AllocError>
-    ensures { IfOk result (λ seen. (d : List Deed) → IsSound d → IsAsker d caller.now asker.now → HasRows (rows_of tables.now) d table_ids.Rev →
+    ensures { IfOk result (λ seen. (d : List Deed) → IsSound d → IsAsker d caller.now asker.now →
+        HasRows (rows_of tables.now) d table_ids.Rev →
         seen ≡ (if client_syntax caller.now.client pattern.now then shown d caller.now Head path else Some path)) }
 {
     if !in_client_syntax(&asker.client, pattern) {
@@ -125,7 +126,8 @@ pub(crate) fn is_seen(
     asker: &Asker,
     path: &DepotPath,
 ) -> Result<bool, AllocError>
-    ensures { IfOk result (λ seen. (d : List Deed) (caller : Asking) → IsSound d → IsAsker d caller asker.now → HasRows (rows_of tables.now) d table_ids.Rev →
+    ensures { IfOk result (λ seen. (d : List Deed) (caller : Asking) → IsSound d → IsAsker d caller asker.now →
+        HasRows (rows_of tables.now) d table_ids.Rev →
         seen ≡ (may_list d caller path.now && live_head d path.now)) }
 {
     if !asker.may(path, Level(1)) {
@@ -160,7 +162,8 @@ fn add_file(
     set: &mut TextSet,
     path: DepotPath,
 ) -> Result<(), AllocError>
-    ensures { OnOk result ((d : List Deed) → IsSound d → IsAsker d caller.now asker.now → HasRows (rows_of tables.now) d table_ids.Rev →
+    ensures { OnOk result ((d : List Deed) → IsSound d → IsAsker d caller.now asker.now →
+        HasRows (rows_of tables.now) d table_ids.Rev →
         set.new ≡ all_fitting pattern.now (begun_directories d caller.now asker.now pattern.now path) set.old) }
 {
     // the bytes of a path are one
@@ -183,7 +186,8 @@ fn directories_among(
     pattern: &Pattern,
     paths: Sequence<DepotPath>,
 ) -> Result<TextSet, AllocError>
-    ensures { IfOk result (λ set. (d : List Deed) → IsSound d → IsAsker d caller.now asker.now → HasRows (rows_of tables.now) d table_ids.Rev →
+    ensures { IfOk result (λ set. (d : List Deed) → IsSound d → IsAsker d caller.now asker.now →
+        HasRows (rows_of tables.now) d table_ids.Rev →
         set ≡ all_fitting pattern.now (all_directories d caller.now asker.now pattern.now paths) []) }
 {
     let mut set = TextSet::new(alloc);
@@ -202,7 +206,8 @@ fn by_files(
     asker: &Asker,
     pattern: &Pattern,
 ) -> Result<TextSet, AllocError>
-    ensures { IfOk result (λ set. (d : List Deed) → IsSound d → IsAsker d caller.now asker.now → HasRows (rows_of tables.now) d table_ids.Rev →
+    ensures { IfOk result (λ set. (d : List Deed) → IsSound d → IsAsker d caller.now asker.now →
+        HasRows (rows_of tables.now) d table_ids.Rev →
         set ≡ all_fitting pattern.now (flat_map (directories_of d caller.now pattern.now) (submitted d)) []) }
 {
     let listing = Listing::Submitted;
@@ -224,7 +229,8 @@ pub(crate) fn directories(
     asker: &Asker,
     pattern: &Pattern,
 ) -> Result<Sequence<Text>, AllocError>
-    ensures { IfOk result (λ texts. (d : List Deed) → IsSound d → IsAsker d caller.now asker.now → HasRows (rows_of tables.now) d table_ids.Rev →
+    ensures { IfOk result (λ texts. (d : List Deed) → IsSound d → IsAsker d caller.now asker.now →
+        HasRows (rows_of tables.now) d table_ids.Rev →
         texts ≡ map printed (model.dirs_of d caller.now pattern.now)) }
 {
     if !in_client_syntax(&asker.client, pattern)

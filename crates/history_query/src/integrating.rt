@@ -133,7 +133,8 @@ fn tell_records(
     asker: &Asker,
     path: &DepotPath,
 ) -> Result<Step, AllocError>
-    ensures { IfOk result (λ step. (d : List Deed) (caller : Asking) → IsAsker d caller asker.now → HasRows (rows_of tables.now) d table_ids.Integed →
+    ensures { IfOk result (λ step. (d : List Deed) (caller : Asking) → IsAsker d caller asker.now →
+        HasRows (rows_of tables.now) d table_ids.Integed →
         step ≡ told_rows (map model.integrated_row (model.records_of d caller path.now))) }
 {
     rows_are_records(tables);
@@ -183,8 +184,10 @@ pub fn integrated(
     asker: &Asker,
     arguments: &[FileArgument],
 ) -> Result<Step, AllocError>
-    ensures { IfOk result (λ step. (d : List Deed) → list_all asks_head arguments.now ≡ true → IsSound d → IsAsker d caller.now asker.now →
-        HasRows (rows_of tables.now) d table_ids.Domain → HasRows (rows_of tables.now) d table_ids.Integed → HasRows (rows_of tables.now) d table_ids.Rev →
+    ensures { IfOk result (λ step. (d : List Deed) → list_all asks_head arguments.now ≡ true → IsSound d →
+        IsAsker d caller.now asker.now →
+        HasRows (rows_of tables.now) d table_ids.Domain → HasRows (rows_of tables.now) d table_ids.Integed →
+        HasRows (rows_of tables.now) d table_ids.Rev →
         IsMade (rows_of tables.now) d d (model.integrated d caller.now arguments.now) step) }
 {
     let listing = Listing::Submitted;

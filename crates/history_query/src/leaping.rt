@@ -171,9 +171,11 @@ fn leap(
     path: &DepotPath,
 ) -> Result<Text, AllocError>
     ensures later { IfOk result (λ from. slice_cmp nat_cmp (printed path.now) from ≡ Less) }
-    ensures from { IfOk result (λ from. (d : List Deed) (caller : Asking) → IsSound d → IsAsker d caller asker.now → HasRows (rows_of tables.now) d table_ids.Rev →
+    ensures from { IfOk result (λ from. (d : List Deed) (caller : Asking) → IsSound d → IsAsker d caller asker.now →
+        HasRows (rows_of tables.now) d table_ids.Rev →
         from ≡ next_text pattern.now depth (may_list d caller path.now && live_head d path.now) path.now) }
-    ensures found { OnOk result ((d : List Deed) (caller : Asking) → IsSound d → IsAsker d caller asker.now → HasRows (rows_of tables.now) d table_ids.Rev →
+    ensures found { OnOk result ((d : List Deed) (caller : Asking) → IsSound d → IsAsker d caller asker.now →
+        HasRows (rows_of tables.now) d table_ids.Rev →
         found.new ≡ found.old ++ texts_at pattern.now depth (may_list d caller path.now && live_head d path.now) path.now) }
 {
     let bytes = path.as_bytes();
@@ -219,7 +221,8 @@ fn found_by_leaps(
 ) -> Result<Sequence<Text>, AllocError>
     requires depth { IsDepth pattern.now depth }
     requires syntax { client_syntax asker.now.client pattern.now ≡ false }
-    ensures { IfOk result (λ found. (d : List Deed) (caller : Asking) → IsSound d → IsAsker d caller asker.now → HasRows (rows_of tables.now) d table_ids.Rev →
+    ensures { IfOk result (λ found. (d : List Deed) (caller : Asking) → IsSound d → IsAsker d caller asker.now →
+        HasRows (rows_of tables.now) d table_ids.Rev →
         texts_put found [] ≡ all_fitting pattern.now (flat_map (directories_of d caller pattern.now) (submitted d)) []) }
 {
     rows_list_files(tables);
@@ -256,7 +259,8 @@ pub(crate) fn by_leaps(
 ) -> Result<TextSet, AllocError>
     requires depth { IsDepth pattern.now depth }
     requires syntax { client_syntax asker.now.client pattern.now ≡ false }
-    ensures { IfOk result (λ set. (d : List Deed) (caller : Asking) → IsSound d → IsAsker d caller asker.now → HasRows (rows_of tables.now) d table_ids.Rev →
+    ensures { IfOk result (λ set. (d : List Deed) (caller : Asking) → IsSound d → IsAsker d caller asker.now →
+        HasRows (rows_of tables.now) d table_ids.Rev →
         set ≡ all_fitting pattern.now (flat_map (directories_of d caller pattern.now) (submitted d)) []) }
 {
     let found = found_by_leaps(alloc, tables, asker, pattern, depth)?;

@@ -272,7 +272,8 @@ fn with_next(
     credits: &Credits<'_>,
     row: &RevRecord,
 ) -> Result<RowBuilder, AllocError>
-    ensures { IfOk result (λ more. (d : List Deed) → HasRows (rows_of tables.now) d table_ids.Change → more ≡ made ++ logged d (decimal index) (credited credits.now) (seen row.now)) }
+    ensures { IfOk result (λ more. (d : List Deed) → HasRows (rows_of tables.now) d table_ids.Change →
+        more ≡ made ++ logged d (decimal index) (credited credits.now) (seen row.now)) }
 {
     let index = index_of(alloc, index)?;
     let change = change_of(tables, row.change);
@@ -310,7 +311,8 @@ fn log_of(
     credits: &Credits<'_>,
     last: u32,
 ) -> Result<Row, AllocError>
-    ensures { IfOk result (λ row. (d : List Deed) → IsSound d → HasRows (rows_of tables.now) d table_ids.Change → HasRows (rows_of tables.now) d table_ids.Rev →
+    ensures { IfOk result (λ row. (d : List Deed) → IsSound d → HasRows (rows_of tables.now) d table_ids.Change →
+        HasRows (rows_of tables.now) d table_ids.Rev →
         row ≡ log_row d path.now (credited credits.now) (map numbered_record (model.up_to d path.now last))) }
 {
     let rows = revisions_up_to(alloc, tables, path, last)?;
@@ -328,7 +330,8 @@ fn log_in(
     range: &KeyRange,
     last: u32,
 ) -> Result<Row, AllocError>
-    ensures { IfOk result (λ row. (d : List Deed) (caller : Asking) → LogReads caller asker.now (rows_of tables.now) d → range.now ≡ KeyRange.Integrations (printed path.now) →
+    ensures { IfOk result (λ row. (d : List Deed) (caller : Asking) → LogReads caller asker.now (rows_of tables.now) d →
+        range.now ≡ KeyRange.Integrations (printed path.now) →
         row ≡ log_row d path.now (credits_in d caller path.now) (map numbered_record (model.up_to d path.now last))) }
 {
     rows_are_records(tables);
@@ -345,7 +348,8 @@ fn tell_log(
     path: &DepotPath,
     last: u32,
 ) -> Result<Step, AllocError>
-    ensures { IfOk result (λ step. (d : List Deed) (caller : Asking) → LogReads caller asker.now (rows_of tables.now) d →
+    ensures { IfOk result (λ step. (d : List Deed) (caller : Asking) →
+        LogReads caller asker.now (rows_of tables.now) d →
         step ≡ told_rows (log_row d path.now (credits_in d caller path.now) (map numbered_record (model.up_to d path.now last)) ∷ [])) }
 {
     let range = range_of(alloc, path)?;
@@ -364,7 +368,8 @@ fn tell_chosen(
     path: &DepotPath,
     row: Option<&RevRecord>,
 ) -> Result<Step, AllocError>
-    ensures { IfOk result (λ step. (d : List Deed) (caller : Asking) → LogReads caller asker.now (rows_of tables.now) d →
+    ensures { IfOk result (λ step. (d : List Deed) (caller : Asking) →
+        LogReads caller asker.now (rows_of tables.now) d →
         step ≡ told_rows (rows_logged d caller path.now (option_map (λ r. r.rev) (option_copied row.entry)))) }
 {
     match row {
@@ -409,9 +414,12 @@ pub fn filelog(
     asker: &Asker,
     arguments: &[FileArgument],
 ) -> Result<Step, AllocError>
-    ensures { IfOk result (λ step. (d : List Deed) → IsSound d → IsAsker d caller.now asker.now → HasRows (rows_of tables.now) d table_ids.Domain → HasRows (rows_of tables.now) d table_ids.Have →
-        HasRows (rows_of tables.now) d table_ids.Label → HasRows (rows_of tables.now) d table_ids.Integed → HasRows (rows_of tables.now) d table_ids.Change →
-        HasRows (rows_of tables.now) d table_ids.Rev → IsMade (rows_of tables.now) d d (model.filelog d caller.now arguments.now) step) }
+    ensures { IfOk result (λ step. (d : List Deed) → IsSound d → IsAsker d caller.now asker.now →
+        HasRows (rows_of tables.now) d table_ids.Domain → HasRows (rows_of tables.now) d table_ids.Have →
+        HasRows (rows_of tables.now) d table_ids.Label → HasRows (rows_of tables.now) d table_ids.Integed →
+        HasRows (rows_of tables.now) d table_ids.Change →
+        HasRows (rows_of tables.now) d table_ids.Rev →
+        IsMade (rows_of tables.now) d d (model.filelog d caller.now arguments.now) step) }
 {
     let act = Logged { asker };
     let step = over_chosen(alloc, tables, caller, asker, &act, arguments)?;

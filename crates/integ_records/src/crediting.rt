@@ -125,7 +125,8 @@ pub(crate) fn credits_of(
     from: &DepotPath,
     to: &DepotPath,
 ) -> Result<Sequence<Span>, AllocError>
-    ensures { IfOk result (λ spans. (d : List Deed) (n : ℕ) → IsSound d → HasRows (rows_of tables.now) d table_ids.Integed →
+    ensures { IfOk result (λ spans. (d : List Deed) (n : ℕ) → IsSound d →
+        HasRows (rows_of tables.now) d table_ids.Integed →
         list_any (is_within n) spans ≡ credited d from.now to.now n) }
 {
     rows_tell_credits(tables);

@@ -43,7 +43,8 @@ struct Integrating<'a> {
 
 /// The refusal of a target whose text no file has.
 fn no_target(alloc: Global, text: &Text) -> Result<Step, AllocError>
-    ensures { IfOk result (λ step. (all : AllRows) (d e : List Deed) → IsMade all d e (refuses (refusals.NotInView (printed text.now))) step) }
+    ensures { IfOk result (λ step. (all : AllRows) (d e : List Deed) →
+        IsMade all d e (refuses (refusals.NotInView (printed text.now))) step) }
 {
     let told = print_bytes(alloc, text.as_bytes())?;
     let row = not_in_view_row(alloc, told.as_bytes())?;
@@ -59,7 +60,8 @@ impl<'a> Integrating<'a> {
         from: &DepotPath,
         to: &DepotPath,
     ) -> Result<Step, AllocError>
-        ensures { IfOk result (λ step. (d e : List Deed) → Reads self.now.caller.now self.now.asker.now (rows_of tables.now) d →
+        ensures { IfOk result (λ step. (d e : List Deed) →
+            Reads self.now.caller.now self.now.asker.now (rows_of tables.now) d →
             IsMade (rows_of tables.now) d e (integrates_closed d self.now.caller.now self.now.change self.now.from.now.spec.wanted from.now to.now) step) }
     {
         let caller = self.caller;
@@ -94,7 +96,8 @@ impl<'a> Integrating<'a> {
         from: &DepotPath,
         to: &DepotPath,
     ) -> Result<Step, AllocError>
-        ensures { IfOk result (λ step. (d e : List Deed) → ReadsOwn self.now.caller.now self.now.asker.now self.now.own (rows_of tables.now) d e →
+        ensures { IfOk result (λ step. (d e : List Deed) →
+            ReadsOwn self.now.caller.now self.now.asker.now self.now.own (rows_of tables.now) d e →
             IsMade (rows_of tables.now) d e (model.integrate_to d e self.now.caller.now self.now.change self.now.from.now.spec.wanted from.now to.now) step) }
     {
         if let Some(row) = right_refusal(alloc, self.asker, to, Level(3))? {
@@ -121,7 +124,8 @@ impl<'a> Integrating<'a> {
         tables: &Tables,
         path: &DepotPath,
     ) -> Result<Step, AllocError>
-        ensures { IfOk result (λ step. (d e : List Deed) → ReadsOwn self.now.caller.now self.now.asker.now self.now.own (rows_of tables.now) d e →
+        ensures { IfOk result (λ step. (d e : List Deed) →
+            ReadsOwn self.now.caller.now self.now.asker.now self.now.own (rows_of tables.now) d e →
             IsMade (rows_of tables.now) d e (model.integrate_chosen d e self.now.caller.now self.now.change self.now.from.now self.now.to.now path.now) step) }
     {
         let view = &self.asker.view;
@@ -139,7 +143,8 @@ impl<'a> Integrating<'a> {
         tables: &Tables,
         path: &DepotPath,
     ) -> Result<Step, AllocError>
-        ensures { IfOk result (λ step. (d e : List Deed) → ReadsOwn self.now.caller.now self.now.asker.now self.now.own (rows_of tables.now) d e →
+        ensures { IfOk result (λ step. (d e : List Deed) →
+            ReadsOwn self.now.caller.now self.now.asker.now self.now.own (rows_of tables.now) d e →
             IsMade (rows_of tables.now) d e (model.integrate_file d self.now.caller.now self.now.change self.now.from.now self.now.to.now e path.now) step) }
     {
         if let Some(row) = right_refusal(alloc, self.asker, path, Level(2))? {
@@ -185,9 +190,12 @@ pub fn integrate(
     from: &FileArgument,
     to: &PatternArgument,
 ) -> Result<Step, AllocError>
-    ensures { IfOk result (λ step. (d : List Deed) → IsSound d → IsAsker d caller.now asker.now → HasRows (rows_of tables.now) d table_ids.Domain →
-        HasRows (rows_of tables.now) d table_ids.Have → HasRows (rows_of tables.now) d table_ids.Label → HasRows (rows_of tables.now) d table_ids.Integed →
-        HasRows (rows_of tables.now) d table_ids.Working → HasRows (rows_of tables.now) d table_ids.Change → HasRows (rows_of tables.now) d table_ids.Rev →
+    ensures { IfOk result (λ step. (d : List Deed) → IsSound d → IsAsker d caller.now asker.now →
+        HasRows (rows_of tables.now) d table_ids.Domain →
+        HasRows (rows_of tables.now) d table_ids.Have → HasRows (rows_of tables.now) d table_ids.Label →
+        HasRows (rows_of tables.now) d table_ids.Integed →
+        HasRows (rows_of tables.now) d table_ids.Working → HasRows (rows_of tables.now) d table_ids.Change →
+        HasRows (rows_of tables.now) d table_ids.Rev →
         IsMade (rows_of tables.now) d d (model.integrate d caller.now change from.now to.now) step) }
 {
     if let Some(row) = named_change_refusal(alloc, tables, caller, change)? {

@@ -66,7 +66,8 @@ fn way_of(source_live: bool, target_live: bool) -> Option<Way>
 
 /// The type of a revision of a file.
 fn type_at(alloc: Global, tables: &Tables, path: &DepotPath, rev: u32) -> Result<Text, AllocError>
-    ensures { IfOk result (λ text. (d : List Deed) → HasRows (rows_of tables.now) d table_ids.Rev → text ≡ model.type_at d path.now rev) }
+    ensures { IfOk result (λ text. (d : List Deed) → HasRows (rows_of tables.now) d table_ids.Rev →
+        text ≡ model.type_at d path.now rev) }
 {
     let row = revision_of(alloc, tables, path, rev)?;
     let file_type = type_of(alloc, row)?;
@@ -82,7 +83,8 @@ pub(crate) fn new_type(
     to: &DepotPath,
     last: u32,
 ) -> Result<Text, AllocError>
-    ensures { IfOk result (λ text. (d : List Deed) → IsSound d → HasRows (rows_of tables.now) d table_ids.Rev → text ≡ model.new_type d from.now to.now last) }
+    ensures { IfOk result (λ text. (d : List Deed) → IsSound d → HasRows (rows_of tables.now) d table_ids.Rev →
+        text ≡ model.new_type d from.now to.now last) }
 {
     let live = is_live_head(alloc, tables, to)?;
     if live {
@@ -285,7 +287,8 @@ fn integrate_by(
 
 /// The refusal of a target into which nothing is left to integrate.
 fn none_left(alloc: Global, path: &DepotPath) -> Result<Step, AllocError>
-    ensures { IfOk result (λ step. (all : AllRows) (d e : List Deed) → IsMade all d e (refuses (refusals.AllIntegrated path.now)) step) }
+    ensures { IfOk result (λ step. (all : AllRows) (d e : List Deed) →
+        IsMade all d e (refuses (refusals.AllIntegrated path.now)) step) }
 {
     let row = all_integrated_row(alloc, path)?;
     Step::tells(alloc, row)

@@ -244,7 +244,8 @@ fn add_turn(
     opening: &mut Opening,
     owing: &Owing,
 ) -> Result<bool, AllocError>
-    ensures step { IfOk result (λ _. (d e : List Deed) (m : ModelStep) → HasRows (rows_of tables.now) d table_ids.Rev → IsMade (rows_of tables.now) d e m step.old →
+    ensures step { IfOk result (λ _. (d e : List Deed) (m : ModelStep) → HasRows (rows_of tables.now) d table_ids.Rev →
+        IsMade (rows_of tables.now) d e m step.old →
         IsMade (rows_of tables.now) d e (both m (model.resolve_one d taking (opening_of_deed opening.old) (owing_of owing.now))) step.new) }
     ensures left { IfOk result (λ stays. (d : List Deed) → HasRows (rows_of tables.now) d table_ids.Rev →
         left d taking (opening_of_deed opening.old) (owing_of owing.now) ≡ when stays (opening_of_deed opening.new)) }

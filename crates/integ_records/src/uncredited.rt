@@ -68,7 +68,8 @@ pub(crate) fn ends_wanted(
     from: &DepotPath,
     to: &DepotPath,
 ) -> Result<Option<Span>, AllocError>
-    ensures { IfOk result (λ ends. (d : List Deed) → Reads caller.now asker.now (rows_of tables.now) d → ends ≡ ends_of (model.uncredited d caller.now wanted.now from.now to.now)) }
+    ensures { IfOk result (λ ends. (d : List Deed) → Reads caller.now asker.now (rows_of tables.now) d →
+        ends ≡ ends_of (model.uncredited d caller.now wanted.now from.now to.now)) }
 {
     let spans = credits_of(alloc, tables, from, to)?;
     let revs = in_range(alloc, tables, caller, from, wanted)?;

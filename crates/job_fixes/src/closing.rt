@@ -72,7 +72,8 @@ pub fn close(
     deeds: &mut Deeds,
     name: &[u8],
 ) -> Result<(), AllocError>
-    ensures { OnOk result ((d : List Deed) → IsSound d → HasRows (rows_of tables.now) d table_ids.Domain → Tells deeds.old deeds.new (model.closes d name.now)) }
+    ensures { OnOk result ((d : List Deed) → IsSound d → HasRows (rows_of tables.now) d table_ids.Domain →
+        Tells deeds.old deeds.new (model.closes d name.now)) }
 {
     let found = saved_form(alloc, tables, SpecKind::Job, name)?;
     let Some(form) = found else {

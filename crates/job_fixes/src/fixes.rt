@@ -117,7 +117,8 @@ fn asked_names(
     change: &Option<Text>,
     job: &Option<Text>,
 ) -> Result<Sequence<Text>, AllocError>
-    ensures { IfOk result (λ names. (d : List Deed) → HasRows (rows_of tables.now) d table_ids.Domain → names ≡ names_asked d change.now job.now) }
+    ensures { IfOk result (λ names. (d : List Deed) → HasRows (rows_of tables.now) d table_ids.Domain →
+        names ≡ names_asked d change.now job.now) }
 {
     match (change, job) {
         (Some(change), _) => fix_names(alloc, tables, change.as_bytes()),
@@ -151,7 +152,8 @@ pub fn fixes_asked(
 /// The fixes of a change that are on, by name (Command-Line Reference, "p4 fix"), from the table of forms alone. It
 /// reads the fixes by the change. The one error is want of memory.
 pub fn fixes_of(alloc: Global, tables: &Tables, change: u32) -> Result<Sequence<Form>, AllocError>
-    ensures { IfOk result (λ forms. (d : List Deed) → IsSound d → HasRows (rows_of tables.now) d table_ids.Domain → forms ≡ model.fixes_of d change) }
+    ensures { IfOk result (λ forms. (d : List Deed) → IsSound d → HasRows (rows_of tables.now) d table_ids.Domain →
+        forms ≡ model.fixes_of d change) }
 {
     let forms = fixes_asked(alloc, tables, Some(change), &None)?;
     Ok(forms)

@@ -56,7 +56,8 @@ fn fix_job(
     landed: bool,
     name: &[u8],
 ) -> Result<Step, AllocError>
-    ensures { IfOk result (λ step. (d e : List Deed) → IsSound d → HasRows (rows_of tables.now) d table_ids.Domain → landed ≡ is_some (landing d change) →
+    ensures { IfOk result (λ step. (d e : List Deed) → IsSound d → HasRows (rows_of tables.now) d table_ids.Domain →
+        landed ≡ is_some (landing d change) →
         IsMade (rows_of tables.now) d e (model.fix_job d caller.now change name.now) step) }
 {
     let row = fixed_row(alloc, name, change, b"fixed")?;
@@ -80,7 +81,8 @@ pub fn fix(
     change: u32,
     names: &[Text],
 ) -> Result<Step, AllocError>
-    ensures { IfOk result (λ step. (d : List Deed) → IsSound d → HasRows (rows_of tables.now) d table_ids.Domain → HasRows (rows_of tables.now) d table_ids.Change →
+    ensures { IfOk result (λ step. (d : List Deed) → IsSound d → HasRows (rows_of tables.now) d table_ids.Domain →
+        HasRows (rows_of tables.now) d table_ids.Change →
         IsMade (rows_of tables.now) d d (model.fix d caller.now change names.now) step) }
 {
     if let Some(row) = named_refusal(alloc, tables, change, names)? {
@@ -138,7 +140,8 @@ pub fn fix_delete(
     change: u32,
     names: &[Text],
 ) -> Result<Step, AllocError>
-    ensures { IfOk result (λ step. (d : List Deed) → IsSound d → HasRows (rows_of tables.now) d table_ids.Domain → HasRows (rows_of tables.now) d table_ids.Change →
+    ensures { IfOk result (λ step. (d : List Deed) → IsSound d → HasRows (rows_of tables.now) d table_ids.Domain →
+        HasRows (rows_of tables.now) d table_ids.Change →
         IsMade (rows_of tables.now) d d (model.fix_delete d change names.now) step) }
 {
     if let Some(row) = named_refusal(alloc, tables, change, names)? {

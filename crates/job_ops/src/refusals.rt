@@ -44,7 +44,8 @@ pub(crate) fn named_refusal(
     change: u32,
     names: &[Text],
 ) -> Result<Option<Row>, AllocError>
-    ensures { IfOk result (λ row. (d : List Deed) → IsSound d → HasRows (rows_of tables.now) d table_ids.Domain → HasRows (rows_of tables.now) d table_ids.Change →
+    ensures { IfOk result (λ row. (d : List Deed) → IsSound d → HasRows (rows_of tables.now) d table_ids.Domain →
+        HasRows (rows_of tables.now) d table_ids.Change →
         row ≡ option_map refusal_row (first_of (named_refusals d change names.now))) }
 {
     if change_of(tables, change).is_none() {
@@ -84,7 +85,8 @@ pub(crate) fn distinct(alloc: Global, names: &[Text]) -> Result<Sequence<Text>, 
 
 /// Whether a change fixes a job, from the table of forms alone.
 fn has_fix(alloc: Global, tables: &Tables, change: u32, name: &[u8]) -> Result<bool, AllocError>
-    ensures { IfOk result (λ fixed. (d : List Deed) → IsSound d → HasRows (rows_of tables.now) d table_ids.Domain → fixed ≡ has_fix_in d change name.now) }
+    ensures { IfOk result (λ fixed. (d : List Deed) → IsSound d → HasRows (rows_of tables.now) d table_ids.Domain →
+        fixed ≡ has_fix_in d change name.now) }
 {
     let key = fix_name(alloc, name, change)?;
     match saved_form(alloc, tables, SpecKind::Fix, key.as_bytes())? {

@@ -106,7 +106,8 @@ pub fn read_group(
     number: u64,
 ) -> Result<(Sequence<Change>, usize), GroupFault>
     // What is read is the text of a group.
-    ensures found { IfOk result (λ x. IsGroup x.0 × (take x.1 bytes.now ≡ group_text number x.0) × (x.1 ≤ length bytes.now)) }
+    ensures found { IfOk result (λ x. IsGroup x.0 × (take x.1 bytes.now ≡ group_text number x.0) ×
+        (x.1 ≤ length bytes.now)) }
     // The text of a group is read, whatever follows it, unless there is no memory.
     ensures only { (changes : List Change) (rest : List ℕ) → IsGroup changes →
         bytes.now ≡ group_text number changes ++ rest → IsAnswer result (changes, length (group_text number changes)) }

@@ -216,7 +216,8 @@ impl GroupReader {
         // Where the bytes are at fault, the records that were read are all that stand there whole.
         ensures records { IfErr result (λ fault. IfOfText fault (HasRecords self.old.number self.old.at self.old.left self.new.records self.new.reached)) }
         // It is short just where all of the bytes may still become what is wanted.
-        ensures short { IfShort result (λ place. GoesOn self.old.number self.old.left × (place ≡ self.old.at + length self.old.left)) }
+        ensures short { IfShort result (λ place. GoesOn self.old.number self.old.left ×
+            (place ≡ self.old.at + length self.old.left)) }
         ensures goes { GoesOn self.old.number self.old.left → IsShort result (self.old.at + length self.old.left) }
         // Another fault is at the first byte that can't go on.
         ensures bad { IfBad result (λ place. StopsAt self.old.number self.old.left (self.old.at + length self.old.left - place)) }

@@ -111,7 +111,8 @@ fn change_tag(
     old: u32,
     new: u32,
 ) -> Result<Step, AllocError>
-    ensures { IfOk result (λ step. (all : AllRows) (d e : List Deed) → IsMade all d e (tag_step label.now path.now old new) step) }
+    ensures { IfOk result (λ step. (all : AllRows) (d e : List Deed) →
+        IsMade all d e (tag_step label.now path.now old new) step) }
 {
     // the bytes of a path are one
     let _bytes = path.as_bytes();
@@ -132,7 +133,8 @@ fn tag_to(
     old: u32,
     new: u32,
 ) -> Result<Step, AllocError>
-    ensures { IfOk result (λ step. (all : AllRows) (d e : List Deed) → IsMade all d e (model.tag_to label.now path.now old new) step) }
+    ensures { IfOk result (λ step. (all : AllRows) (d e : List Deed) →
+        IsMade all d e (model.tag_to label.now path.now old new) step) }
 {
     let stays = old == new;
     if stays {
@@ -161,8 +163,10 @@ fn live_choice<'t>(
     wanted: &Wanted,
 ) -> Result<u32, AllocError>
     ensures heads { IfOk result (λ _. (rows : List Stored) → AreHeads rows heads.old → AreHeads rows heads.new) }
-    ensures rev { IfOk result (λ rev. (d : List Deed) → AreHeads (rows_of tables.now table_ids.Rev) heads.old → IsSound d → HasRows (rows_of tables.now) d table_ids.Rev →
-        HaveRows (rows_of tables.now) d (wanted_tables wanted.now) → rev ≡ model.live_choice d caller.now wanted.now path.now) }
+    ensures rev { IfOk result (λ rev. (d : List Deed) → AreHeads (rows_of tables.now table_ids.Rev) heads.old →
+        IsSound d → HasRows (rows_of tables.now) d table_ids.Rev →
+        HaveRows (rows_of tables.now) d (wanted_tables wanted.now) →
+        rev ≡ model.live_choice d caller.now wanted.now path.now) }
 {
     let choice = heads.choice(alloc, tables, caller, path, wanted)?;
     match choice {
@@ -184,8 +188,10 @@ fn asked_choice<'t>(
     wanted: &Wanted,
 ) -> Result<u32, AllocError>
     ensures heads { IfOk result (λ _. (rows : List Stored) → AreHeads rows heads.old → AreHeads rows heads.new) }
-    ensures rev { IfOk result (λ rev. (d : List Deed) → ShownReads taking.now.caller.now taking.now.asker.now Submitted (rows_of tables.now) d →
-        AreHeads (rows_of tables.now table_ids.Rev) heads.old → rev ≡ model.live_choice d taking.now.caller.now (asked taking.now.have wanted.now) path.now) }
+    ensures rev { IfOk result (λ rev. (d : List Deed) →
+        ShownReads taking.now.caller.now taking.now.asker.now Submitted (rows_of tables.now) d →
+        AreHeads (rows_of tables.now table_ids.Rev) heads.old →
+        rev ≡ model.live_choice d taking.now.caller.now (asked taking.now.have wanted.now) path.now) }
 {
     let had = asks_have(taking.have, wanted);
     if had {
@@ -218,7 +224,8 @@ fn new_rev<'t>(
     old: u32,
 ) -> Result<u32, AllocError>
     ensures heads { IfOk result (λ _. (rows : List Stored) → AreHeads rows heads.old → AreHeads rows heads.new) }
-    ensures rev { IfOk result (λ rev. (d : List Deed) → ShownReads taking.now.caller.now taking.now.asker.now Submitted (rows_of tables.now) d →
+    ensures rev { IfOk result (λ rev. (d : List Deed) →
+        ShownReads taking.now.caller.now taking.now.asker.now Submitted (rows_of tables.now) d →
         AreHeads (rows_of tables.now table_ids.Rev) heads.old → old ≡ labelled d taking.now.label.now path.now →
         rev ≡ rev_by taking.now.labelling d taking.now.caller.now taking.now.label.now (asked taking.now.have wanted.now) path.now) }
 {
@@ -245,7 +252,8 @@ fn take<'t>(
     wanted: &Wanted,
 ) -> Result<Step, AllocError>
     ensures heads { IfOk result (λ _. (rows : List Stored) → AreHeads rows heads.old → AreHeads rows heads.new) }
-    ensures step { IfOk result (λ step. (d e : List Deed) → ShownReads taking.now.caller.now taking.now.asker.now Submitted (rows_of tables.now) d →
+    ensures step { IfOk result (λ step. (d e : List Deed) →
+        ShownReads taking.now.caller.now taking.now.asker.now Submitted (rows_of tables.now) d →
         AreHeads (rows_of tables.now table_ids.Rev) heads.old →
         IsMade (rows_of tables.now) d e (model.tag_to taking.now.label.now path.now (labelled d taking.now.label.now path.now)
         (rev_by taking.now.labelling d taking.now.caller.now taking.now.label.now (asked taking.now.have wanted.now) path.now)) step) }

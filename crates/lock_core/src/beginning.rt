@@ -61,7 +61,8 @@ impl LockCore {
         requests: Vec<Vec<Request>>,
     ) -> Result<LockCore, AllocError>
         ensures tables { IfOk result (λ core. core.tables ≡ tables) }
-        ensures shows { IfOk result (λ core. (start : List Deed) → Stand (rows_of tables) start → AllProperIn (all_items requests.items) →
+        ensures shows { IfOk result (λ core. (start : List Deed) → Stand (rows_of tables) start →
+            AllProperIn (all_items requests.items) →
             Shows start core (beginning (all_items requests.items))) }
     {
         let mut parties = Vec::new(alloc);

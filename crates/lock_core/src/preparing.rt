@@ -43,7 +43,8 @@ fn make_room(alloc: Global, tables: &Tables, changes: &[Change]) -> Result<Room,
 impl Work {
     /// Finds what its command is answered and changes, and makes the room for its commit.
     pub(crate) fn prepare(&mut self, alloc: Global, tables: &Tables) -> Result<Outcome, AllocError>
-        ensures outcome { IfOk result (λ outcome. (d : List Deed) → IsSound d → IsFormedBy self.old.request → HasNeeded (rows_of tables.now) d self.old.request →
+        ensures outcome { IfOk result (λ outcome. (d : List Deed) → IsSound d → IsFormedBy self.old.request →
+            HasNeeded (rows_of tables.now) d self.old.request →
             IsOutcome (rows_of tables.now) tables.now.archive_end d self.old.request outcome) }
         ensures room { IfOk result (λ outcome. IsSomeAnd self.new.room (IsRoomOf (rows_of tables.now) outcome.changes)) }
         ensures ok { OnOk result ((room : AnyRoom) × (self.new ≡ record self.old { room = Some room })) }

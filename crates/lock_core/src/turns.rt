@@ -67,9 +67,11 @@ impl LockCore {
     /// The one error is want of memory, where a commit is at hand, and then nothing is changed: `finish` may end it
     /// without a place.
     pub fn turn(&mut self, alloc: Global, party: u32) -> Result<Turn, AllocError>
-        ensures turn { IfOk result (λ turn. (start : List Deed) (s : State) → Shows start self.old s → IsTurn start s self.old self.new party turn) }
+        ensures turn { IfOk result (λ turn. (start : List Deed) (s : State) → Shows start self.old s →
+            IsTurn start s self.old self.new party turn) }
         ensures same { OnErr result (IsAsBefore self.old self.new) }
-        ensures commit { OnErr result ((start : List Deed) (s : State) → Shows start self.old s → (request : ModelRequest) × IsCommit start s self.new party request) }
+        ensures commit { OnErr result ((start : List Deed) (s : State) → Shows start self.old s →
+            (request : ModelRequest) × IsCommit start s self.new party request) }
     {
         if !self.may_go(party) {
             return Ok(Turn::Idle);

@@ -137,8 +137,10 @@ fn write_kept(
     at: u64,
     piece: &[u8],
 ) -> Result<(), AllocError>
-    ensures kept { OnOk result ((v : _) × (v.items ≡ piece.now) × (log.new.items ≡ log.old.items ++ Write file at v ∷ [])) }
-    ensures written { OnOk result ((f : ℕ) → contents files.new.items f ≡ put file (written at piece.now (contents files.old.items file)) (contents files.old.items) f) }
+    ensures kept { OnOk result ((v : _) × (v.items ≡ piece.now) ×
+        (log.new.items ≡ log.old.items ++ Write file at v ∷ [])) }
+    ensures written { OnOk result ((f : ℕ) →
+        contents files.new.items f ≡ put file (written at piece.now (contents files.old.items file)) (contents files.old.items) f) }
     ensures not_kept { OnErr result (log.new.items ≡ log.old.items) }
     ensures same { OnErr result ((f : ℕ) → contents files.new.items f ≡ contents files.old.items f) }
 {

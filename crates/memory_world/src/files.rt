@@ -57,7 +57,8 @@ pub fn write_file(
     at: u64,
     piece: &[u8],
 ) -> Result<(), AllocError>
-    ensures written { OnOk result ((f : ℕ) → contents files.new.items f ≡ put file (written at piece.now (contents files.old.items file)) (contents files.old.items) f) }
+    ensures written { OnOk result ((f : ℕ) →
+        contents files.new.items f ≡ put file (written at piece.now (contents files.old.items file)) (contents files.old.items) f) }
     ensures kept { OnErr result ((f : ℕ) → contents files.new.items f ≡ contents files.old.items f) }
 {
     make_room(alloc, files, file)?;

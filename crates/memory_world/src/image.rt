@@ -47,7 +47,8 @@ fn redo(
     ranges: &mut Vec<OpenRange>,
     call: &Call,
 ) -> Result<(), AllocError>
-    ensures { OnOk result ((s : State) → Agrees files.old.items ranges.old.items s → Agrees files.new.items ranges.new.items (called call.now s)) }
+    ensures { OnOk result ((s : State) → Agrees files.old.items ranges.old.items s →
+        Agrees files.new.items ranges.new.items (called call.now s)) }
 {
     match call {
         Call::Look => Ok(()),

@@ -69,7 +69,8 @@ impl Link for LossyLink {
     fn fetch(&mut self, generation: u32, at: u64, buffer: &mut [u8]) -> Result<Fetched, Failed>
         requires { 0 < length buffer.old }
         ensures answer { (now : List (List ℕ)) → now ≡ lossy_journal self.new →
-            IfOk result (λ fetched. (earlier : List (List ℕ)) × IsEarlier earlier now × Answers earlier generation at fetched buffer.new) }
+            IfOk result (λ fetched. (earlier : List (List ℕ)) × IsEarlier earlier now ×
+            Answers earlier generation at fetched buffer.new) }
         ensures fits { IfOk result (λ fetched. Fits fetched (length buffer.old)) }
         ensures grows { (before : List (List ℕ)) → before ≡ lossy_journal self.old →
             (now : List (List ℕ)) × (now ≡ lossy_journal self.new) × IsEarlier before now }

@@ -118,7 +118,8 @@ fn anywhere_below(
     client: &Name,
     beginnings: &[Text],
 ) -> Result<Sequence<DepotPath>, AllocError>
-    ensures { IfOk result (λ paths. (d : List Deed) → IsSound d → HasRows (rows_of tables.now) d table_ids.Working → AreApart beginnings.now → paths ≡ filter (has_one beginnings.now) (opened_anywhere d)) }
+    ensures { IfOk result (λ paths. (d : List Deed) → IsSound d → HasRows (rows_of tables.now) d table_ids.Working →
+        AreApart beginnings.now → paths ≡ filter (has_one beginnings.now) (opened_anywhere d)) }
 {
     rows_tell_files(tables);
     // the openings of all clients stand among those of each

@@ -61,7 +61,8 @@ fn no_view(alloc: Global, client: &Name) -> Result<View, AllocError>
 
 /// The view of a client, without lines where it isn't saved.
 fn view_or_none(alloc: Global, tables: &Tables, client: &Name) -> Result<View, AllocError>
-    ensures { IfOk result (λ found. (d : List Deed) → IsSound d → HasRows (rows_of tables.now) d table_ids.Domain → found ≡ view_in d client.now) }
+    ensures { IfOk result (λ found. (d : List Deed) → IsSound d → HasRows (rows_of tables.now) d table_ids.Domain →
+        found ≡ view_in d client.now) }
 {
     match view_of(alloc, tables, client)? {
         Some(view) => Ok(view),
@@ -78,7 +79,8 @@ impl Asker {
         caller: &Caller,
         who: Who,
     ) -> Result<Asker, AllocError>
-        ensures { IfOk result (λ asker. (d : List Deed) → IsSound d → who ≡ who_in d caller.now → HasRows (rows_of tables.now) d table_ids.Protect →
+        ensures { IfOk result (λ asker. (d : List Deed) → IsSound d → who ≡ who_in d caller.now →
+            HasRows (rows_of tables.now) d table_ids.Protect →
             HasRows (rows_of tables.now) d table_ids.Domain → IsAsker d caller.now asker) }
     {
         let client = own_name(&caller.client)?;

@@ -38,7 +38,8 @@ pub(crate) fn begun_of(
     pattern: &Pattern,
 ) -> Result<Sequence<Text>, AllocError>
     ensures apart { IfOk result (λ beginnings. AreApart beginnings) }
-    ensures every { IfOk result (λ beginnings. (path : List ℕ) → is_begun asker.now pattern.now path ≡ true → has_one beginnings path ≡ true) }
+    ensures every { IfOk result (λ beginnings. (path : List ℕ) → is_begun asker.now pattern.now path ≡ true →
+        has_one beginnings path ≡ true) }
 {
     let start = pattern.beginning(alloc)?;
     if !in_client_syntax(&asker.client, pattern) {
@@ -57,7 +58,8 @@ pub(crate) fn beginnings_of(
     pattern: &Pattern,
 ) -> Result<Sequence<Text>, AllocError>
     ensures apart { IfOk result (λ beginnings. AreApart beginnings) }
-    ensures every { IfOk result (λ beginnings. (path : List ℕ) → is_placed asker.now pattern.now path ≡ true → has_one beginnings path ≡ true) }
+    ensures every { IfOk result (λ beginnings. (path : List ℕ) → is_placed asker.now pattern.now path ≡ true →
+        has_one beginnings path ≡ true) }
 {
     let beginnings = begun_of(alloc, asker, pattern)?;
     Ok(beginnings)

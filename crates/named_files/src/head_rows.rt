@@ -134,8 +134,10 @@ pub(crate) fn headed_candidates<'t>(
     listing: &Listing,
     pattern: &Pattern,
 ) -> Result<HeadedFiles<'t>, AllocError>
-    ensures depot { IfOk result (λ found. (d : List Deed) → IsSound d → HasRows (rows_of tables.now) d (listing_table listing.now) → (test : List ℕ → Bool) →
-        ((path : List ℕ) → test path ≡ true → is_placed asker.now pattern.now path ≡ true) → filter test found.paths ≡ filter test (files_of listing.now d)) }
+    ensures depot { IfOk result (λ found. (d : List Deed) → IsSound d →
+        HasRows (rows_of tables.now) d (listing_table listing.now) → (test : List ℕ → Bool) →
+        ((path : List ℕ) → test path ≡ true → is_placed asker.now pattern.now path ≡ true) →
+        filter test found.paths ≡ filter test (files_of listing.now d)) }
     ensures heads { IfOk result (λ found. All (IsHead (rows_of tables.now (listing_table listing.now))) (map (λ r. r.now) found.heads.items)) }
 {
     rows_list_files(tables, listing);

@@ -31,7 +31,8 @@ pub(crate) fn missing_of(
     listing: &Listing,
     argument: &FileArgument,
 ) -> Result<Step, AllocError>
-    ensures { IfOk result (λ step. (all : AllRows) (d e : List Deed) → IsMade all d e (tells (told_without listing.now argument.now)) step) }
+    ensures { IfOk result (λ step. (all : AllRows) (d e : List Deed) →
+        IsMade all d e (tells (told_without listing.now argument.now)) step) }
 {
     match listing {
         Listing::OpenedBy { .. } => {

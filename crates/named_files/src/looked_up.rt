@@ -35,7 +35,8 @@ pub(crate) fn spelled_files(
     pattern: &Pattern,
 ) -> Result<Sequence<DepotPath>, AllocError>
     requires { list_any is_specifier pattern.now ≡ false }
-    ensures { IfOk result (λ files. (file : List ℕ) → is_path file ≡ true → is_placed asker.now pattern.now file ≡ true → is_in files file ≡ true) }
+    ensures { IfOk result (λ files. (file : List ℕ) → is_path file ≡ true →
+        is_placed asker.now pattern.now file ≡ true → is_in files file ≡ true) }
 {
     let text = pattern.filled(alloc, &[])?;
     let mut files = Sequence::new(alloc);
@@ -105,7 +106,8 @@ pub(crate) fn listed_among<L: FileList>(
     files: Sequence<DepotPath>,
 ) -> Result<Sequence<DepotPath>, AllocError>
     ensures rise { IfOk result (λ found. Rise found) }
-    ensures exactly { IfOk result (λ found. (file : List ℕ) → is_in found file ≡ (is_in files file && L.lists list.now (rows_of tables.now) file)) }
+    ensures exactly { IfOk result (λ found. (file : List ℕ) →
+        is_in found file ≡ (is_in files file && L.lists list.now (rows_of tables.now) file)) }
 {
     let mut found = PathSet::new(alloc);
     let mut rest = files.into_vec();
@@ -126,7 +128,8 @@ pub(crate) fn looked_up(
     pattern: &Pattern,
 ) -> Result<Sequence<DepotPath>, AllocError>
     requires { list_any is_specifier pattern.now ≡ false }
-    ensures { IfOk result (λ paths. (test : List ℕ → Bool) → ((path : List ℕ) → test path ≡ true → is_placed asker.now pattern.now path ≡ true) →
+    ensures { IfOk result (λ paths. (test : List ℕ → Bool) →
+        ((path : List ℕ) → test path ≡ true → is_placed asker.now pattern.now path ≡ true) →
         filter test paths ≡ filter test (listed listing.now (rows_of tables.now (listing_table listing.now)))) }
 {
     let version = tables.version(listing.table());

@@ -96,8 +96,10 @@ pub(crate) fn files_made(
     change: u32,
     pattern: &Pattern,
 ) -> Result<Sequence<DepotPath>, AllocError>
-    ensures { IfOk result (λ paths. (d : List Deed) → IsSound d → HasRows (rows_of tables.now) d table_ids.Rev → (test : List ℕ → Bool) →
-        ((path : List ℕ) → test path ≡ true → is_placed asker.now pattern.now path ≡ true) → filter test paths ≡ filter test (files_of_change d change)) }
+    ensures { IfOk result (λ paths. (d : List Deed) → IsSound d → HasRows (rows_of tables.now) d table_ids.Rev →
+        (test : List ℕ → Bool) →
+        ((path : List ℕ) → test path ≡ true → is_placed asker.now pattern.now path ≡ true) →
+        filter test paths ≡ filter test (files_of_change d change)) }
 {
     rows_tell_made(tables);
     let beginnings = beginnings_of(alloc, asker, pattern)?;

@@ -48,7 +48,8 @@ fn is_shown_at(
     wanted: &Wanted,
     path: &DepotPath,
 ) -> Result<bool, AllocError>
-    ensures { IfOk result (λ shown. (d : List Deed) → IsSound d → HasRows (rows_of tables.now) d table_ids.Rev → HaveRows (rows_of tables.now) d (wanted_tables wanted.now) →
+    ensures { IfOk result (λ shown. (d : List Deed) → IsSound d → HasRows (rows_of tables.now) d table_ids.Rev →
+        HaveRows (rows_of tables.now) d (wanted_tables wanted.now) →
         shown ≡ shown_at_test d caller.now asker.now pattern.now wanted.now path.now) }
 {
     if !in_client_syntax(&asker.client, pattern) {
@@ -70,7 +71,8 @@ pub(crate) fn is_shown(
     wanted: &Wanted,
     path: &DepotPath,
 ) -> Result<bool, AllocError>
-    ensures { IfOk result (λ shown. (d : List Deed) → IsSound d → HasRows (rows_of tables.now) d table_ids.Rev → HaveRows (rows_of tables.now) d (wanted_tables wanted.now) →
+    ensures { IfOk result (λ shown. (d : List Deed) → IsSound d → HasRows (rows_of tables.now) d table_ids.Rev →
+        HaveRows (rows_of tables.now) d (wanted_tables wanted.now) →
         shown ≡ shown_test d caller.now asker.now pattern.now wanted.now path.now) }
 {
     if !asker.may(path, Level(1)) {
@@ -89,7 +91,8 @@ impl<'a> ShownFiles<'a> {
         tables: &'t Tables,
         argument: &FileArgument,
     ) -> Result<HeadedFiles<'t>, AllocError>
-        ensures paths { IfOk result (λ found. (d : List Deed) → ShownReads self.now.caller.now self.now.asker.now self.now.listing.now (rows_of tables.now) d →
+        ensures paths { IfOk result (λ found. (d : List Deed) →
+            ShownReads self.now.caller.now self.now.asker.now self.now.listing.now (rows_of tables.now) d →
             filter (names_file false d self.now.caller.now argument.now.spec) found.paths
             ≡ filter (names_file false d self.now.caller.now argument.now.spec) (files_of self.now.listing.now d)) }
         ensures heads { IfOk result (λ found. All (IsHead (rows_of tables.now (listing_table self.now.listing.now))) (map (λ r. r.now) found.heads.items)) }

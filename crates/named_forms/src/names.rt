@@ -75,7 +75,8 @@ pub fn names_with(
     word: &[u8],
     start: &[u8],
 ) -> Result<Sequence<Text>, AllocError>
-    ensures { IfOk result (λ names. (d : List Deed) (kind : SpecKind) → word.now ≡ kind_word kind → HasRows (rows_of tables.now) d table_ids.Domain →
+    ensures { IfOk result (λ names. (d : List Deed) (kind : SpecKind) → word.now ≡ kind_word kind →
+        HasRows (rows_of tables.now) d table_ids.Domain →
         names ≡ filter (λ name. begins_with name start.now) (keys_of (spec_name kind) d)) }
 {
     let version = tables.version(TableId::Domain);

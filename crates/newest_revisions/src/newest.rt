@@ -96,7 +96,8 @@ fn searched<'t>(
     path: &DepotPath,
     wanted: &Wanted,
 ) -> Result<Option<Revision<'t>>, AllocError>
-    ensures { IfOk result (λ found. (d : List Deed) → IsSound d → HasRows (rows_of tables.now) d table_ids.Rev → HaveRows (rows_of tables.now) d (wanted_tables wanted.now) →
+    ensures { IfOk result (λ found. (d : List Deed) → IsSound d → HasRows (rows_of tables.now) d table_ids.Rev →
+        HaveRows (rows_of tables.now) d (wanted_tables wanted.now) →
         IsAt d path.now (chosen_in d caller.now path.now wanted.now) found) }
 {
     let chosen = chosen_of(alloc, tables, caller, path, wanted)?;
@@ -120,9 +121,11 @@ impl<'t> SeenRows<'t> {
         set: &ShownFiles<'_>,
         argument: &FileArgument,
     ) -> Result<Sequence<DepotPath>, AllocError>
-        ensures paths { IfOk result (λ paths. (d : List Deed) → ShownReads set.now.caller.now set.now.asker.now set.now.listing.now (rows_of tables.now) d →
+        ensures paths { IfOk result (λ paths. (d : List Deed) →
+            ShownReads set.now.caller.now set.now.asker.now set.now.listing.now (rows_of tables.now) d →
             filter (names_file false d set.now.caller.now argument.now.spec) paths ≡ filter (names_file false d set.now.caller.now argument.now.spec) (files_of set.now.listing.now d)) }
-        ensures heads { IfOk result (λ _. AreHeads (rows_of tables.now table_ids.Rev) self.old → AreHeads (rows_of tables.now table_ids.Rev) self.new) }
+        ensures heads { IfOk result (λ _. AreHeads (rows_of tables.now table_ids.Rev) self.old →
+            AreHeads (rows_of tables.now table_ids.Rev) self.new) }
     {
         let sees = asks_heads(argument, set.listing);
         if !sees {
@@ -145,7 +148,8 @@ impl<'t> SeenRows<'t> {
     ) -> Result<Option<&'t RevRecord>, AllocError>
         ensures heads { IfOk result (λ _. (rows : List Row) → AreHeads rows self.old → AreHeads rows self.new) }
         ensures asked { IfOk result (λ row. (r : Revised) → option_copied row ≡ Some r → asks_none wanted.now ≡ true) }
-        ensures row { IfOk result (λ row. (r : Revised) → option_copied row ≡ Some r → (rows : List Row) → AreHeads rows self.old → IsNewest rows path.now r) }
+        ensures row { IfOk result (λ row. (r : Revised) → option_copied row ≡ Some r → (rows : List Row) →
+            AreHeads rows self.old → IsNewest rows path.now r) }
     {
         if !asks_for_none(wanted) {
             return Ok(None);
@@ -168,8 +172,10 @@ impl<'t> SeenRows<'t> {
         wanted: &Wanted,
     ) -> Result<Option<Revision<'t>>, AllocError>
         ensures heads { IfOk result (λ _. (rows : List Row) → AreHeads rows self.old → AreHeads rows self.new) }
-        ensures choice { IfOk result (λ found. (d : List Deed) → AreHeads (rows_of tables.now table_ids.Rev) self.old → IsSound d → HasRows (rows_of tables.now) d table_ids.Rev →
-            HaveRows (rows_of tables.now) d (wanted_tables wanted.now) → IsAt d path.now (chosen_in d caller.now path.now wanted.now) found) }
+        ensures choice { IfOk result (λ found. (d : List Deed) → AreHeads (rows_of tables.now table_ids.Rev) self.old →
+            IsSound d → HasRows (rows_of tables.now) d table_ids.Rev →
+            HaveRows (rows_of tables.now) d (wanted_tables wanted.now) →
+            IsAt d path.now (chosen_in d caller.now path.now wanted.now) found) }
     {
         // the bytes of a path are one
         let _bytes = path.as_bytes();
@@ -198,10 +204,12 @@ impl<'t> SeenRows<'t> {
         wanted: &Wanted,
     ) -> Result<Option<&'t RevRecord>, AllocError>
         ensures heads { IfOk result (λ _. (rows : List Row) → AreHeads rows self.old → AreHeads rows self.new) }
-        ensures row { IfOk result (λ row. (d : List Deed) → AreHeads (rows_of tables.now table_ids.Rev) self.old → IsSound d → HasRows (rows_of tables.now) d table_ids.Rev →
+        ensures row { IfOk result (λ row. (d : List Deed) → AreHeads (rows_of tables.now table_ids.Rev) self.old →
+            IsSound d → HasRows (rows_of tables.now) d table_ids.Rev →
             HaveRows (rows_of tables.now) d (wanted_tables wanted.now) →
             option_map seen (option_copied row) ≡ option_map numbered_record (numbered d path.now (chosen_in d caller.now path.now wanted.now))) }
-        ensures stored { IfOk result (λ row. AreHeads (rows_of tables.now table_ids.Rev) self.old → (r : Revised) → option_copied row ≡ Some r →
+        ensures stored { IfOk result (λ row. AreHeads (rows_of tables.now table_ids.Rev) self.old → (r : Revised) →
+            option_copied row ≡ Some r →
             row_in (rows_of tables.now) (keys.Rev (printed path.now) r.rev) ≡ Some (Row.Rev r)) }
         ensures read_again { IfOk result (λ _. path_of (printed path.now) ≡ Ok path.now) }
     {

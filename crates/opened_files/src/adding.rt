@@ -60,7 +60,8 @@ fn spelled_file(
     argument: &FileArgument,
     path: DepotPath,
 ) -> Result<Option<DepotPath>, AllocError>
-    ensures { IfOk result (λ file. (d : List Deed) → IsSound d → HasRows (rows_of tables.now) d table_ids.Rev → file ≡ file_spelled d asker.now argument.now path) }
+    ensures { IfOk result (λ file. (d : List Deed) → IsSound d → HasRows (rows_of tables.now) d table_ids.Rev →
+        file ≡ file_spelled d asker.now argument.now path) }
 {
     if in_client_syntax(&asker.client, &argument.spec.pattern) {
         let file = file_at(alloc, tables, &asker.view, &path)?;
@@ -128,7 +129,8 @@ pub(crate) fn new_refusal(
     file_type: &Text,
     is_open: bool,
 ) -> Result<Option<Row>, AllocError>
-    ensures { IfOk result (λ row. (d : List Deed) → IsSound d → HasRows (rows_of tables.now) d table_ids.Working → HasRows (rows_of tables.now) d table_ids.Rev →
+    ensures { IfOk result (λ row. (d : List Deed) → IsSound d → HasRows (rows_of tables.now) d table_ids.Working →
+        HasRows (rows_of tables.now) d table_ids.Rev →
         row ≡ option_map refusal_row (new_refusal_by path.now is_open (live_head d path.now) (exclusive_refusal_in d path.now client.now file_type.now))) }
 {
     if is_open {
@@ -206,8 +208,10 @@ pub fn add(
     file_type: &Option<Text>,
     arguments: &[FileArgument],
 ) -> Result<Step, AllocError>
-    ensures { IfOk result (λ step. (d : List Deed) → list_all spells_path arguments.now ≡ true → IsSound d → IsAsker d caller.now asker.now →
-        HasRows (rows_of tables.now) d table_ids.Change → HasRows (rows_of tables.now) d table_ids.Working → HasRows (rows_of tables.now) d table_ids.Rev →
+    ensures { IfOk result (λ step. (d : List Deed) → list_all spells_path arguments.now ≡ true → IsSound d →
+        IsAsker d caller.now asker.now →
+        HasRows (rows_of tables.now) d table_ids.Change → HasRows (rows_of tables.now) d table_ids.Working →
+        HasRows (rows_of tables.now) d table_ids.Rev →
         IsMade (rows_of tables.now) d d (model.add d caller.now change file_type.now arguments.now) step) }
 {
     if let Some(row) = named_change_refusal(alloc, tables, caller, change)? {

@@ -119,7 +119,8 @@ pub(crate) fn open_file(
     opening: Opening,
     place: &ClientPath,
 ) -> Result<Step, AllocError>
-    ensures { IfOk result (λ step. (all : AllRows) (d e : List Deed) → IsMade all d e (open_step (opening_of_deed opening) (Some place.now)) step) }
+    ensures { IfOk result (λ step. (all : AllRows) (d e : List Deed) →
+        IsMade all d e (open_step (opening_of_deed opening) (Some place.now)) step) }
 {
     // the bytes of a path are one
     let _bytes = opening.path.as_bytes();
@@ -137,7 +138,8 @@ impl<'a> OpeningHad<'a> {
         place: &ClientPath,
         opening: Opening,
     ) -> Result<Step, AllocError>
-        ensures { IfOk result (λ step. (d e : List Deed) → IsSound d → HasRows (rows_of tables.now) d table_ids.Working →
+        ensures { IfOk result (λ step. (d e : List Deed) → IsSound d →
+            HasRows (rows_of tables.now) d table_ids.Working →
             Some (opening_of_deed opening) ≡ opened d self.now.caller.now.client path.now →
             IsMade (rows_of tables.now) d e (opens_shown d self.now.caller.now (action_of self.now.action) self.now.change self.now.file_type.now (Some place.now) path.now) step) }
     {
@@ -164,7 +166,9 @@ impl<'a> OpeningHad<'a> {
         path: &DepotPath,
         place: &ClientPath,
     ) -> Result<Step, AllocError>
-        ensures { IfOk result (λ step. (d e : List Deed) → Reads self.now.caller.now self.now.asker.now (rows_of tables.now) d → None ≡ opened d self.now.caller.now.client path.now →
+        ensures { IfOk result (λ step. (d e : List Deed) →
+            Reads self.now.caller.now self.now.asker.now (rows_of tables.now) d →
+            None ≡ opened d self.now.caller.now.client path.now →
             IsMade (rows_of tables.now) d e (opens_shown d self.now.caller.now (action_of self.now.action) self.now.change self.now.file_type.now (Some place.now) path.now) step) }
     {
         let caller = self.caller;
@@ -225,8 +229,10 @@ fn open_had(
     file_type: &Option<Text>,
     arguments: &[FileArgument],
 ) -> Result<Step, AllocError>
-    ensures { IfOk result (λ step. (d : List Deed) → list_all asks_head arguments.now ≡ true → IsSound d → IsAsker d caller.now asker.now →
-        HasRows (rows_of tables.now) d table_ids.Domain → HasRows (rows_of tables.now) d table_ids.Have → HasRows (rows_of tables.now) d table_ids.Working →
+    ensures { IfOk result (λ step. (d : List Deed) → list_all asks_head arguments.now ≡ true → IsSound d →
+        IsAsker d caller.now asker.now →
+        HasRows (rows_of tables.now) d table_ids.Domain → HasRows (rows_of tables.now) d table_ids.Have →
+        HasRows (rows_of tables.now) d table_ids.Working →
         HasRows (rows_of tables.now) d table_ids.Change → HasRows (rows_of tables.now) d table_ids.Rev →
         IsMade (rows_of tables.now) d d (model.open_had (action_of action) d caller.now change file_type.now arguments.now) step) }
 {
@@ -261,8 +267,10 @@ pub fn edit(
     file_type: &Option<Text>,
     arguments: &[FileArgument],
 ) -> Result<Step, AllocError>
-    ensures { IfOk result (λ step. (d : List Deed) → list_all asks_head arguments.now ≡ true → IsSound d → IsAsker d caller.now asker.now →
-        HasRows (rows_of tables.now) d table_ids.Domain → HasRows (rows_of tables.now) d table_ids.Have → HasRows (rows_of tables.now) d table_ids.Working →
+    ensures { IfOk result (λ step. (d : List Deed) → list_all asks_head arguments.now ≡ true → IsSound d →
+        IsAsker d caller.now asker.now →
+        HasRows (rows_of tables.now) d table_ids.Domain → HasRows (rows_of tables.now) d table_ids.Have →
+        HasRows (rows_of tables.now) d table_ids.Working →
         HasRows (rows_of tables.now) d table_ids.Change → HasRows (rows_of tables.now) d table_ids.Rev →
         IsMade (rows_of tables.now) d d (model.edit d caller.now change file_type.now arguments.now) step) }
 {
@@ -288,8 +296,10 @@ pub fn delete(
     change: Option<u32>,
     arguments: &[FileArgument],
 ) -> Result<Step, AllocError>
-    ensures { IfOk result (λ step. (d : List Deed) → list_all asks_head arguments.now ≡ true → IsSound d → IsAsker d caller.now asker.now →
-        HasRows (rows_of tables.now) d table_ids.Domain → HasRows (rows_of tables.now) d table_ids.Have → HasRows (rows_of tables.now) d table_ids.Working →
+    ensures { IfOk result (λ step. (d : List Deed) → list_all asks_head arguments.now ≡ true → IsSound d →
+        IsAsker d caller.now asker.now →
+        HasRows (rows_of tables.now) d table_ids.Domain → HasRows (rows_of tables.now) d table_ids.Have →
+        HasRows (rows_of tables.now) d table_ids.Working →
         HasRows (rows_of tables.now) d table_ids.Change → HasRows (rows_of tables.now) d table_ids.Rev →
         IsMade (rows_of tables.now) d d (model.delete d caller.now change arguments.now) step) }
 {

@@ -30,7 +30,8 @@ pub fn had_type(
     caller: &Caller,
     path: &DepotPath,
 ) -> Result<Text, AllocError>
-    ensures { IfOk result (λ file_type. (d : List Deed) → HasRows (rows_of tables.now) d table_ids.Have → HasRows (rows_of tables.now) d table_ids.Rev →
+    ensures { IfOk result (λ file_type. (d : List Deed) → HasRows (rows_of tables.now) d table_ids.Have →
+        HasRows (rows_of tables.now) d table_ids.Rev →
         file_type ≡ model.had_type d caller.now path.now) }
 {
     let rev = have_of(alloc, tables, &caller.client, path)?;
@@ -47,7 +48,8 @@ pub(crate) fn first_type(
     path: &DepotPath,
     asked: &Option<Text>,
 ) -> Result<Text, AllocError>
-    ensures { IfOk result (λ file_type. (d : List Deed) → HasRows (rows_of tables.now) d table_ids.Have → HasRows (rows_of tables.now) d table_ids.Rev →
+    ensures { IfOk result (λ file_type. (d : List Deed) → HasRows (rows_of tables.now) d table_ids.Have →
+        HasRows (rows_of tables.now) d table_ids.Rev →
         file_type ≡ unwrap_or asked.now (model.had_type d caller.now path.now)) }
 {
     match asked {

@@ -97,7 +97,8 @@ pub fn lock(
     change: Option<u32>,
     arguments: &[FileArgument],
 ) -> Result<Step, AllocError>
-    ensures { IfOk result (λ step. (d : List Deed) → IsSound d → IsAsker d caller.now asker.now → HasRows (rows_of tables.now) d table_ids.Working →
+    ensures { IfOk result (λ step. (d : List Deed) → IsSound d → IsAsker d caller.now asker.now →
+        HasRows (rows_of tables.now) d table_ids.Working →
         IsMade (rows_of tables.now) d d (model.lock d caller.now change arguments.now) step) }
 {
     let files = SelectedFiles {

@@ -191,7 +191,8 @@ fn other_end(
     own: &OwnOpenings,
     opening: &Opening,
 ) -> Result<Option<Opening>, AllocError>
-    ensures { IfOk result (λ other. (d e : List ModelDeed) → IsSound d → HasRows (rows_of tables.now) d table_ids.Working → IsOwn own.now opening.now.client d e →
+    ensures { IfOk result (λ other. (d e : List ModelDeed) → IsSound d →
+        HasRows (rows_of tables.now) d table_ids.Working → IsOwn own.now opening.now.client d e →
         option_map opening_of_deed other ≡ partner e (opening_of_deed opening.now)) }
 {
     let Some(path) = &opening.moved else {
@@ -214,7 +215,8 @@ fn deeds_added(
     change: Option<u32>,
     target: &DepotPath,
 ) -> Result<Deeds, AllocError>
-    ensures { IfOk result (λ deeds. (e : List ModelDeed) → base ≡ head e target.now → Follow e deeds (model.move_added e change (opening_of_deed opening.now) target.now)) }
+    ensures { IfOk result (λ deeds. (e : List ModelDeed) → base ≡ head e target.now →
+        Follow e deeds (model.move_added e change (opening_of_deed opening.now) target.now)) }
 {
     // the bytes of a path are one
     let _target = target.as_bytes();
@@ -235,7 +237,8 @@ fn deeds_edited(
     change: Option<u32>,
     target: &DepotPath,
 ) -> Result<Deeds, AllocError>
-    ensures { IfOk result (λ deeds. (e : List ModelDeed) → base ≡ head e target.now → Follow e deeds (model.move_edited e change (opening_of_deed opening.now) target.now)) }
+    ensures { IfOk result (λ deeds. (e : List ModelDeed) → base ≡ head e target.now →
+        Follow e deeds (model.move_edited e change (opening_of_deed opening.now) target.now)) }
 {
     // the bytes of a path are one
     let _target = target.as_bytes();
@@ -278,7 +281,8 @@ fn deeds_again(
     change: Option<u32>,
     target: &DepotPath,
 ) -> Result<Deeds, AllocError>
-    ensures { IfOk result (λ deeds. (d e : List ModelDeed) → IsSound d → HasRows (rows_of tables.now) d table_ids.Working → IsOwn own.now opening.now.client d e →
+    ensures { IfOk result (λ deeds. (d e : List ModelDeed) → IsSound d →
+        HasRows (rows_of tables.now) d table_ids.Working → IsOwn own.now opening.now.client d e →
         base ≡ head e target.now → Follow e deeds (model.move_again e change (opening_of_deed opening.now) target.now)) }
 {
     // the bytes of a path are one
@@ -306,7 +310,8 @@ fn move_deeds(
     change: Option<u32>,
     target: &DepotPath,
 ) -> Result<Deeds, AllocError>
-    ensures { IfOk result (λ deeds. (d e : List ModelDeed) → IsSound d → HasRows (rows_of tables.now) d table_ids.Working → IsOwn own.now opening.now.client d e →
+    ensures { IfOk result (λ deeds. (d e : List ModelDeed) → IsSound d →
+        HasRows (rows_of tables.now) d table_ids.Working → IsOwn own.now opening.now.client d e →
         base ≡ head e target.now → Follow e deeds (model.move_deeds e change (opening_of_deed opening.now) target.now)) }
 {
     if is_added(opening) {
@@ -365,8 +370,10 @@ fn move_there(
     change: Option<u32>,
     target: &DepotPath,
 ) -> Result<Step, AllocError>
-    ensures { IfOk result (λ step. (d e : List ModelDeed) → IsSound d → HasRows (rows_of tables.now) d table_ids.Working → HasRows (rows_of tables.now) d table_ids.Rev →
-        IsOwn own.now opening.now.client d e → IsMade (rows_of tables.now) d e (move_step e change (opening_of_deed opening.now) target.now) step) }
+    ensures { IfOk result (λ step. (d e : List ModelDeed) → IsSound d →
+        HasRows (rows_of tables.now) d table_ids.Working → HasRows (rows_of tables.now) d table_ids.Rev →
+        IsOwn own.now opening.now.client d e →
+        IsMade (rows_of tables.now) d e (move_step e change (opening_of_deed opening.now) target.now) step) }
 {
     let base = head_of(alloc, tables, target)?;
     let row = move_row(alloc, opening, base, target)?;
@@ -376,7 +383,8 @@ fn move_there(
 
 /// The step of a file whose target is no path, or that no file has.
 fn no_target(alloc: Global, opening: &Opening, text: &Text) -> Result<Step, AllocError>
-    ensures { IfOk result (λ step. (all : AllRows) (d e : List ModelDeed) → IsMade all d e (moves_nowhere (opening_of_deed opening.now) text.now) step) }
+    ensures { IfOk result (λ step. (all : AllRows) (d e : List ModelDeed) →
+        IsMade all d e (moves_nowhere (opening_of_deed opening.now) text.now) step) }
 {
     if let Some(row) = movable_refusal(alloc, opening)? {
         return Step::tells(alloc, row);
@@ -395,7 +403,8 @@ impl<'a> Moving<'a> {
         opening: &Opening,
         target: &DepotPath,
     ) -> Result<Step, AllocError>
-        ensures { IfOk result (λ step. (d e : List ModelDeed) → ReadsOwn self.now.caller.now self.now.asker.now self.now.from.now self.now.own (rows_of tables.now) d e →
+        ensures { IfOk result (λ step. (d e : List ModelDeed) →
+            ReadsOwn self.now.caller.now self.now.asker.now self.now.from.now self.now.own (rows_of tables.now) d e →
             opening.now.client ≡ self.now.caller.now.client →
             IsMade (rows_of tables.now) d e (model.move_to e self.now.caller.now self.now.change (opening_of_deed opening.now) target.now) step) }
     {
@@ -427,7 +436,8 @@ impl<'a> Moving<'a> {
         tables: &Tables,
         opening: &Opening,
     ) -> Result<Step, AllocError>
-        ensures { IfOk result (λ step. (d e : List ModelDeed) → ReadsOwn self.now.caller.now self.now.asker.now self.now.from.now self.now.own (rows_of tables.now) d e →
+        ensures { IfOk result (λ step. (d e : List ModelDeed) →
+            ReadsOwn self.now.caller.now self.now.asker.now self.now.from.now self.now.own (rows_of tables.now) d e →
             opening.now.client ≡ self.now.caller.now.client →
             IsMade (rows_of tables.now) d e (model.move_opening e self.now.caller.now self.now.change self.now.from.now self.now.to.now (opening_of_deed opening.now)) step) }
     {
@@ -450,7 +460,8 @@ impl<'a> Moving<'a> {
         tables: &Tables,
         path: &DepotPath,
     ) -> Result<Step, AllocError>
-        ensures { IfOk result (λ step. (d e : List ModelDeed) → ReadsOwn self.now.caller.now self.now.asker.now self.now.from.now self.now.own (rows_of tables.now) d e →
+        ensures { IfOk result (λ step. (d e : List ModelDeed) →
+            ReadsOwn self.now.caller.now self.now.asker.now self.now.from.now self.now.own (rows_of tables.now) d e →
             IsMade (rows_of tables.now) d e (model.move_file self.now.caller.now self.now.change self.now.from.now self.now.to.now e path.now) step) }
     {
         match self.own.opening(alloc, tables, &self.caller.client, path)? {
@@ -491,7 +502,8 @@ pub fn move_files(
     from: &FileArgument,
     to: &PatternArgument,
 ) -> Result<Step, AllocError>
-    ensures { IfOk result (λ step. (d : List ModelDeed) → asks_head from.now ≡ true → IsSound d → IsAsker d caller.now asker.now →
+    ensures { IfOk result (λ step. (d : List ModelDeed) → asks_head from.now ≡ true → IsSound d →
+        IsAsker d caller.now asker.now →
         HasRows (rows_of tables.now) d table_ids.Domain → HasRows (rows_of tables.now) d table_ids.Change →
         HasRows (rows_of tables.now) d table_ids.Working → HasRows (rows_of tables.now) d table_ids.Rev →
         IsMade (rows_of tables.now) d d (model.move d caller.now change from.now to.now) step) }

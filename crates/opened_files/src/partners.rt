@@ -23,7 +23,8 @@ fn named_end(
     client: &Name,
     path: &DepotPath,
 ) -> Result<Option<DepotPath>, AllocError>
-    ensures { IfOk result (λ other. (d : List Deed) → IsSound d → HasRows (rows_of tables.now) d table_ids.Working → other ≡ end_named d client.now path.now) }
+    ensures { IfOk result (λ other. (d : List Deed) → IsSound d → HasRows (rows_of tables.now) d table_ids.Working →
+        other ≡ end_named d client.now path.now) }
 {
     let row = opening_of(alloc, tables, client, path)?;
     match row {
@@ -53,7 +54,8 @@ pub fn partner_of(
     client: &Name,
     path: &DepotPath,
 ) -> Result<Option<DepotPath>, AllocError>
-    ensures { IfOk result (λ other. (d : List Deed) → IsSound d → HasRows (rows_of tables.now) d table_ids.Working → other ≡ partner_path d client.now path.now) }
+    ensures { IfOk result (λ other. (d : List Deed) → IsSound d → HasRows (rows_of tables.now) d table_ids.Working →
+        other ≡ partner_path d client.now path.now) }
 {
     let other = named_end(alloc, tables, client, path)?;
     match other {

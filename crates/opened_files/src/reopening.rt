@@ -92,7 +92,8 @@ pub fn reopen(
     file_type: &Option<Text>,
     arguments: &[FileArgument],
 ) -> Result<Step, AllocError>
-    ensures { IfOk result (λ step. (d : List Deed) → IsSound d → IsAsker d caller.now asker.now → HasRows (rows_of tables.now) d table_ids.Change →
+    ensures { IfOk result (λ step. (d : List Deed) → IsSound d → IsAsker d caller.now asker.now →
+        HasRows (rows_of tables.now) d table_ids.Change →
         HasRows (rows_of tables.now) d table_ids.Working →
         IsMade (rows_of tables.now) d d (model.reopen d caller.now change file_type.now arguments.now) step) }
 {

@@ -55,7 +55,8 @@ fn shut(
     caller: &Caller,
     path: &DepotPath,
 ) -> Result<Step, AllocError>
-    ensures { IfOk result (λ step. (d e : List Deed) → HasRows (rows_of tables.now) d table_ids.Have → IsMade (rows_of tables.now) d e (model.shut d caller.now path.now) step) }
+    ensures { IfOk result (λ step. (d e : List Deed) → HasRows (rows_of tables.now) d table_ids.Have →
+        IsMade (rows_of tables.now) d e (model.shut d caller.now path.now) step) }
 {
     // the bytes of a path are one
     let _bytes = path.as_bytes();
@@ -73,7 +74,8 @@ fn end_along(
     asker: &Asker,
     path: &DepotPath,
 ) -> Result<Option<DepotPath>, AllocError>
-    ensures { IfOk result (λ other. (d : List Deed) → Reads caller.now asker.now (rows_of tables.now) d → path.now ∷ option_to_list other ≡ model.both_ends d caller.now path.now) }
+    ensures { IfOk result (λ other. (d : List Deed) → Reads caller.now asker.now (rows_of tables.now) d →
+        path.now ∷ option_to_list other ≡ model.both_ends d caller.now path.now) }
 {
     if !asker.may(path, Level(3)) {
         return Ok(None);
@@ -91,7 +93,8 @@ fn revert_file(
     path: &DepotPath,
     other: &Option<DepotPath>,
 ) -> Result<Step, AllocError>
-    ensures { IfOk result (λ step. (d e : List Deed) → Reads caller.now asker.now (rows_of tables.now) d → path.now ∷ option_to_list other.now ≡ model.both_ends d caller.now path.now →
+    ensures { IfOk result (λ step. (d e : List Deed) → Reads caller.now asker.now (rows_of tables.now) d →
+        path.now ∷ option_to_list other.now ≡ model.both_ends d caller.now path.now →
         IsMade (rows_of tables.now) d e (model.revert_file d caller.now path.now) step) }
 {
     if let Some(row) = right_refusal(alloc, asker, path, Level(3))? {
@@ -112,7 +115,8 @@ fn take_ends(
     path: &DepotPath,
     other: Option<DepotPath>,
 ) -> Result<(), AllocError>
-    ensures { OnOk result ((seen : List (List ℕ)) → AreAlike taken.old seen → AreAlike taken.new ((path.now ∷ option_to_list other) ++ seen)) }
+    ensures { OnOk result ((seen : List (List ℕ)) → AreAlike taken.old seen →
+        AreAlike taken.new ((path.now ∷ option_to_list other) ++ seen)) }
 {
     let file = own_path(path)?;
     taken.insert(file)?;
@@ -135,7 +139,8 @@ fn add_file(
     taken: &mut PathSet,
     path: &DepotPath,
 ) -> Result<(), AllocError>
-    ensures { OnOk result ((d : List Deed) (done : ModelStep) (seen : List (List ℕ)) → Reads caller.now asker.now (rows_of tables.now) d →
+    ensures { OnOk result ((d : List Deed) (done : ModelStep) (seen : List (List ℕ)) →
+        Reads caller.now asker.now (rows_of tables.now) d →
         IsReverted (rows_of tables.now) d done seen step.old taken.old →
         IsReverted (rows_of tables.now) d (both done (if is_in seen path.now then nothing else model.revert_file d caller.now path.now)) (model.both_ends d caller.now path.now ++ seen)
         step.new taken.new) }
@@ -161,7 +166,8 @@ fn add_files(
     taken: &mut PathSet,
     paths: &[DepotPath],
 ) -> Result<(), AllocError>
-    ensures { OnOk result ((d : List Deed) (done : ModelStep) (seen : List (List ℕ)) → Reads caller.now asker.now (rows_of tables.now) d →
+    ensures { OnOk result ((d : List Deed) (done : ModelStep) (seen : List (List ℕ)) →
+        Reads caller.now asker.now (rows_of tables.now) d →
         IsReverted (rows_of tables.now) d done seen step.old taken.old →
         IsReverted (rows_of tables.now) d (both done (model.revert_files d caller.now seen paths.now)) (flat_map (model.both_ends d caller.now) paths.now ++ seen) step.new taken.new) }
 {
@@ -182,7 +188,8 @@ fn add_argument(
     taken: &mut PathSet,
     argument: &FileArgument,
 ) -> Result<(), AllocError>
-    ensures { OnOk result ((d : List Deed) (done : ModelStep) (seen : List (List ℕ)) → Reads files.now.caller.now files.now.asker.now (rows_of tables.now) d →
+    ensures { OnOk result ((d : List Deed) (done : ModelStep) (seen : List (List ℕ)) →
+        Reads files.now.caller.now files.now.asker.now (rows_of tables.now) d →
         IsReverted (rows_of tables.now) d done seen step.old taken.old →
         IsReverted (rows_of tables.now) d
         (both done (model.revert_named d files.now.caller.now seen argument.now (model.selected d files.now.caller.now files.now.change argument.now)))
@@ -213,7 +220,8 @@ fn revert_over(
     files: &SelectedFiles<'_>,
     arguments: &[FileArgument],
 ) -> Result<Step, AllocError>
-    ensures { IfOk result (λ step. (d : List Deed) → Reads files.now.caller.now files.now.asker.now (rows_of tables.now) d →
+    ensures { IfOk result (λ step. (d : List Deed) →
+        Reads files.now.caller.now files.now.asker.now (rows_of tables.now) d →
         IsMade (rows_of tables.now) d d (model.revert_over d files.now.caller.now files.now.change [] arguments.now) step) }
 {
     let mut step = Step::new(alloc);
@@ -237,8 +245,10 @@ pub fn revert(
     change: Option<u32>,
     arguments: &[FileArgument],
 ) -> Result<Step, AllocError>
-    ensures { IfOk result (λ step. (d : List Deed) → IsSound d → IsAsker d caller.now asker.now → HasRows (rows_of tables.now) d table_ids.Have →
-        HasRows (rows_of tables.now) d table_ids.Working → IsMade (rows_of tables.now) d d (model.revert d caller.now change arguments.now) step) }
+    ensures { IfOk result (λ step. (d : List Deed) → IsSound d → IsAsker d caller.now asker.now →
+        HasRows (rows_of tables.now) d table_ids.Have →
+        HasRows (rows_of tables.now) d table_ids.Working →
+        IsMade (rows_of tables.now) d d (model.revert d caller.now change arguments.now) step) }
 {
     let files = SelectedFiles {
         caller,

@@ -137,7 +137,8 @@ pub fn opened(
     all: bool,
     arguments: &[FileArgument],
 ) -> Result<Step, AllocError>
-    ensures { IfOk result (λ step. (d : List Deed) → IsSound d → IsAsker d caller.now asker.now → HasRows (rows_of tables.now) d table_ids.Working →
+    ensures { IfOk result (λ step. (d : List Deed) → IsSound d → IsAsker d caller.now asker.now →
+        HasRows (rows_of tables.now) d table_ids.Working →
         IsMade (rows_of tables.now) d d (model.opened_step d caller.now all arguments.now) step) }
 {
     let showing = Showing { caller, all };

@@ -29,7 +29,8 @@ pub fn right_refusal(
     path: &DepotPath,
     need: Level,
 ) -> Result<Option<Row>, AllocError>
-    ensures { IfOk result (λ row. (d : List Deed) (caller : AnyCaller) → IsAsker d caller asker.now → row ≡ option_map refusal_row (model.right_refusal need.0 d caller path.now)) }
+    ensures { IfOk result (λ row. (d : List Deed) (caller : AnyCaller) → IsAsker d caller asker.now →
+        row ≡ option_map refusal_row (model.right_refusal need.0 d caller path.now)) }
 {
     if asker.may(path, need) {
         return Ok(None);

@@ -47,7 +47,8 @@ pub fn openings_of(
     client: &Name,
     change: u32,
 ) -> Result<Sequence<Opening>, AllocError>
-    ensures { IfOk result (λ openings. (d : List Deed) → IsSound d → HasRows (rows_of tables.now) d table_ids.Working → map opening_of_deed openings ≡ opened_in d client.now change) }
+    ensures { IfOk result (λ openings. (d : List Deed) → IsSound d → HasRows (rows_of tables.now) d table_ids.Working →
+        map opening_of_deed openings ≡ opened_in d client.now change) }
 {
     let version = tables.version(TableId::Working);
     // the rows of a version are of its table, their keys rising

@@ -25,7 +25,8 @@ fn owed_key(
     from: &DepotPath,
 ) -> Result<Key, AllocError>
     ensures key { IfOk result (λ key. key ≡ keys.Resolve client.now (printed path.now) (printed from.now)) }
-    ensures read_again { IfOk result (λ _. (path_of (printed path.now) ≡ Ok path.now) × (path_of (printed from.now) ≡ Ok from.now)) }
+    ensures read_again { IfOk result (λ _. (path_of (printed path.now) ≡ Ok path.now) ×
+        (path_of (printed from.now) ≡ Ok from.now)) }
 {
     let client = Text::from_bytes(alloc, client.as_bytes())?;
     let path = path.print(alloc)?;

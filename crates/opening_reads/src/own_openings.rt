@@ -129,7 +129,8 @@ pub fn opening_by(
     client: &Name,
     path: &DepotPath,
 ) -> Result<Option<Opening>, AllocError>
-    ensures { IfOk result (λ opening. (d : List ModelDeed) → IsSound d → HasRows (rows_of tables.now) d table_ids.Working →
+    ensures { IfOk result (λ opening. (d : List ModelDeed) → IsSound d →
+        HasRows (rows_of tables.now) d table_ids.Working →
         option_map opening_of_deed opening ≡ opened d client.now path.now) }
 {
     let row = opening_of(alloc, tables, client, path)?;
@@ -149,7 +150,8 @@ pub fn is_opened_by(
     client: &Name,
     path: &DepotPath,
 ) -> Result<bool, AllocError>
-    ensures { IfOk result (λ open_now. (d : List ModelDeed) → HasRows (rows_of tables.now) d table_ids.Working → open_now ≡ is_some (opened d client.now path.now)) }
+    ensures { IfOk result (λ open_now. (d : List ModelDeed) → HasRows (rows_of tables.now) d table_ids.Working →
+        open_now ≡ is_some (opened d client.now path.now)) }
 {
     let row = opening_of(alloc, tables, client, path)?;
     Ok(row.is_some())
@@ -174,7 +176,8 @@ impl OwnOpenings {
         client: &Name,
         path: &DepotPath,
     ) -> Result<Option<Opening>, AllocError>
-        ensures { IfOk result (λ opening. (d e : List ModelDeed) → IsSound d → HasRows (rows_of tables.now) d table_ids.Working → IsOwn self.now client.now d e →
+        ensures { IfOk result (λ opening. (d e : List ModelDeed) → IsSound d →
+            HasRows (rows_of tables.now) d table_ids.Working → IsOwn self.now client.now d e →
             option_map opening_of_deed opening ≡ opened e client.now path.now) }
     {
         match self.changed.get(path) {
@@ -197,7 +200,8 @@ impl OwnOpenings {
         client: &Name,
         path: &DepotPath,
     ) -> Result<bool, AllocError>
-        ensures { IfOk result (λ open_now. (d e : List ModelDeed) → HasRows (rows_of tables.now) d table_ids.Working → IsOwn self.now client.now d e →
+        ensures { IfOk result (λ open_now. (d e : List ModelDeed) → HasRows (rows_of tables.now) d table_ids.Working →
+            IsOwn self.now client.now d e →
             open_now ≡ is_some (opened e client.now path.now)) }
     {
         match self.changed.get(path) {
@@ -249,7 +253,8 @@ impl OwnOpenings {
 
     /// Notes deeds that a command makes for the client, the first first.
     pub fn note(&mut self, deeds: &[Deed]) -> Result<(), AllocError>
-        ensures { OnOk result ((client : List ℕ) (d e done : List ModelDeed) → Follow e deeds.now done → list_all (is_of client) done ≡ true → IsOwn self.old client d e →
+        ensures { OnOk result ((client : List ℕ) (d e done : List ModelDeed) → Follow e deeds.now done →
+            list_all (is_of client) done ≡ true → IsOwn self.old client d e →
             IsOwn self.new client d (after_deeds e done)) }
     {
         let mut rest = deeds;

@@ -74,7 +74,8 @@ pub fn owes_resolve(
     client: &Name,
     path: &DepotPath,
 ) -> Result<bool, AllocError>
-    ensures { IfOk result (λ owes. (d : List Deed) (o : Opening) → IsSound d → HasRows (rows_of tables.now) d table_ids.Resolve → opened d client.now path.now ≡ Some o →
+    ensures { IfOk result (λ owes. (d : List Deed) (o : Opening) → IsSound d →
+        HasRows (rows_of tables.now) d table_ids.Resolve → opened d client.now path.now ≡ Some o →
         owes ≡ list_any unpaid (resolves_of d o)) }
 {
     rows_tell_resolves(tables);
@@ -153,7 +154,8 @@ pub fn owed_resolves(
     client: &Name,
     path: &DepotPath,
 ) -> Result<Sequence<Owing>, AllocError>
-    ensures { IfOk result (λ owings. (d : List Deed) (o : Opening) → IsSound d → HasRows (rows_of tables.now) d table_ids.Resolve → opened d client.now path.now ≡ Some o →
+    ensures { IfOk result (λ owings. (d : List Deed) (o : Opening) → IsSound d →
+        HasRows (rows_of tables.now) d table_ids.Resolve → opened d client.now path.now ≡ Some o →
         map owing_of owings ≡ map (λ (r : Resolve). r.owing) (filter unpaid (resolves_of d o))) }
 {
     rows_tell_resolves(tables);

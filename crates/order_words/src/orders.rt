@@ -68,7 +68,8 @@ impl<E: Entry> Orders<E> {
         lanes: u32,
     ) -> Result<Vec<LaneSeat<E>>, AllocError>
         requires { (seat.old ≡ fresh_order self.now 0) × (lane_count self.now ≡ lanes) }
-        ensures { IfOk result (λ r. (seat.new ≡ fresh_order self.entry.now lanes) × (r.items ≡ fresh_lanes self.entry.now lanes)) }
+        ensures { IfOk result (λ r. (seat.new ≡ fresh_order self.entry.now lanes) ×
+            (r.items ≡ fresh_lanes self.entry.now lanes)) }
     {
         let mut seats = Vec::with_capacity(alloc, lanes as usize)?;
         for lane in 0..lanes {

@@ -38,7 +38,8 @@ use wire_text::{ScriptEnd, give_all};
 
 /// The figures of the depot of these tables.
 fn figures_of(alloc: Global, tables: &Tables, commands: u32) -> Result<LoadFigures, AllocError>
-    ensures { IfOk result (λ figures. (d : List Deed) → Stand (rows_of tables.now) d → figures ≡ figures_in commands d) }
+    ensures { IfOk result (λ figures. (d : List Deed) → Stand (rows_of tables.now) d →
+        figures ≡ figures_in commands d) }
 {
     let changes = landed_changes(alloc, tables)?;
     let files = file_figures(alloc, tables)?;

@@ -121,10 +121,13 @@ fn read_one<S: Source + Drop>(
     source: S,
     scripts: &mut Scripts<S>,
 ) -> Result<(), AllocError>
-    ensures read { OnOk result ((before : List S) → AreRead S.says before scripts.old.sources.items scripts.old.sessions.items scripts.old.replicas.items scripts.old.ends.items →
+    ensures read { OnOk result ((before : List S) →
+        AreRead S.says before scripts.old.sources.items scripts.old.sessions.items scripts.old.replicas.items scripts.old.ends.items →
         AreRead S.says (before ++ source ∷ []) scripts.new.sources.items scripts.new.sessions.items scripts.new.replicas.items scripts.new.ends.items) }
-    ensures formed { OnOk result (AreFormed scripts.old.sessions.items scripts.old.replicas.items → AreFormed scripts.new.sessions.items scripts.new.replicas.items) }
-    ensures few { OnOk result (AreFew scripts.old.sessions.items scripts.old.replicas.items → AreFew scripts.new.sessions.items scripts.new.replicas.items) }
+    ensures formed { OnOk result (AreFormed scripts.old.sessions.items scripts.old.replicas.items →
+        AreFormed scripts.new.sessions.items scripts.new.replicas.items) }
+    ensures few { OnOk result (AreFew scripts.old.sessions.items scripts.old.replicas.items →
+        AreFew scripts.new.sessions.items scripts.new.replicas.items) }
 {
     let mut source = source;
     let read = read_session(alloc, &mut source)?;
@@ -197,8 +200,10 @@ pub fn run_parties<H: Doors, D: Disk, C: Clock, G: Gate>(
     ensures ends { IfOk result.run (λ run. AreEnds H.In.says H.Out.says (H.says.input doors.old) (words_of names.now) (parties_of run) run.sources.items) }
     ensures run { (since : ℕ) (start : List Deed) → HasRun D.says depot since start [] → IfOk result.run (λ run.
         IsRunFrom D.says H.In.says H.Out.says (C.says.may_give clock.now) since start depot result.depot (IsDrawn (C.says.may_give clock.now) seed) (λ past. CanBeFollowed D.says past start [] depot) (H.says.input doors.old) (H.says.output doors.old) (words_of names.now) run.order run.lost (parties_of run) run.sources.items) }
-    ensures lost { IfOk result.run (λ run. run.lost ≡ true → HasRisen (D.says.faults (disk_of depot.journal)) (D.says.faults (disk_of result.depot.journal)) ⊎ HasRisen (D.says.faults (archive_disk_of depot.archive)) (D.says.faults (archive_disk_of result.depot.archive))) }
-    ensures stand { IfOk result.run (λ run. run.lost ≡ false → StandWithoutFaults (D.says.faults (disk_of depot.journal)) (D.says.faults (disk_of result.depot.journal)) (D.says.faults (archive_disk_of depot.archive)) (D.says.faults (archive_disk_of result.depot.archive)) [] run.order) }
+    ensures lost { IfOk result.run (λ run. run.lost ≡ true →
+        HasRisen (D.says.faults (disk_of depot.journal)) (D.says.faults (disk_of result.depot.journal)) ⊎ HasRisen (D.says.faults (archive_disk_of depot.archive)) (D.says.faults (archive_disk_of result.depot.archive))) }
+    ensures stand { IfOk result.run (λ run. run.lost ≡ false →
+        StandWithoutFaults (D.says.faults (disk_of depot.journal)) (D.says.faults (disk_of result.depot.journal)) (D.says.faults (archive_disk_of depot.archive)) (D.says.faults (archive_disk_of result.depot.archive)) [] run.order) }
     ensures faults { IfOk result.run (λ run. AreCaused (D.says.faults (disk_of depot.journal)) (D.says.faults (disk_of result.depot.journal)) (D.says.faults (archive_disk_of depot.archive)) (D.says.faults (archive_disk_of result.depot.archive)) [] run.order) }
     ensures unrun { (why : NotRun) → result.run ≡ Err why → result.depot ≡ depot }
     ensures only { OnlyTheseCome (H.says.input doors.old) (H.says.output doors.old) (H.says.input doors.new) (H.says.output doors.new) (words_of names.now) }

@@ -180,8 +180,10 @@ pub fn run_on_threads<
     // There are at most as many fault places as the counts of the two disks rose, and a replica was answered that a
     // disk failed only where one of them rose. Where neither is, both stand.
     ensures faults { IfOk result (λ ran. AreCaused (D.says.faults (disk_of depot.journal)) (D.says.faults (disk_of ran.depot.journal)) (D.says.faults (archive_disk_of depot.archive)) (D.says.faults (archive_disk_of ran.depot.archive)) [] ran.order.items) }
-    ensures stand { IfOk result (λ ran. ran.lost ≡ false → StandWithoutFaults (D.says.faults (disk_of depot.journal)) (D.says.faults (disk_of ran.depot.journal)) (D.says.faults (archive_disk_of depot.archive)) (D.says.faults (archive_disk_of ran.depot.archive)) [] ran.order.items) }
-    ensures lost { IfOk result (λ ran. ran.lost ≡ true → OneHasRisen (D.says.faults (disk_of depot.journal)) (D.says.faults (disk_of ran.depot.journal)) (D.says.faults (archive_disk_of depot.archive)) (D.says.faults (archive_disk_of ran.depot.archive))) }
+    ensures stand { IfOk result (λ ran. ran.lost ≡ false →
+        StandWithoutFaults (D.says.faults (disk_of depot.journal)) (D.says.faults (disk_of ran.depot.journal)) (D.says.faults (archive_disk_of depot.archive)) (D.says.faults (archive_disk_of ran.depot.archive)) [] ran.order.items) }
+    ensures lost { IfOk result (λ ran. ran.lost ≡ true →
+        OneHasRisen (D.says.faults (disk_of depot.journal)) (D.says.faults (disk_of ran.depot.journal)) (D.says.faults (archive_disk_of depot.archive)) (D.says.faults (archive_disk_of ran.depot.archive))) }
 {
     match bring(alloc, sessions, replicas, clock) {
         Err(_) => Err(depot),

@@ -87,7 +87,8 @@ fn whole(alloc: Global, bytes: &[u8]) -> Result<(Op, Record, usize), RecordFault
 /// record goes on with.
 pub fn read_record(alloc: Global, bytes: &[u8]) -> Result<(Op, Record, usize), RecordFault>
     // What is read is spelled so.
-    ensures found { IfOk result (λ x. IsRecord x.1 × (take x.2 bytes.now ≡ spelling x.0 x.1) × (x.2 ≤ length bytes.now)) }
+    ensures found { IfOk result (λ x. IsRecord x.1 × (take x.2 bytes.now ≡ spelling x.0 x.1) ×
+        (x.2 ≤ length bytes.now)) }
     // What is spelled so is read, whatever follows, unless memory runs out.
     ensures only { (op : Op) (row : Record) (rest : List ℕ) → IsRecord row → bytes.now ≡ spelling op row ++ rest →
         IsAnswer result (op, row, length (spelling op row)) }

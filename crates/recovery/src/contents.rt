@@ -51,7 +51,8 @@ fn check_content<D: Disk>(
         revision.now.at + revision.now.length ≤ length (files 0) → OnOk result (HasDigested (files 0) revision.now) }
     ensures damaged { (files : Files) → D.says.seen disk.old files →
         revision.now.at + revision.now.length ≤ length (files 0) →
-        IfDamaged result (λ place. (place ≡ revision.now.at) × (revision.now.digest ≢ digest (bytes_at (files 0) revision.now))) }
+        IfDamaged result (λ place. (place ≡ revision.now.at) ×
+        (revision.now.digest ≢ digest (bytes_at (files 0) revision.now))) }
     ensures fault { IfErr result IsOfArchive }
     ensures reads { OnlyReads D.says disk.old disk.new }
     ensures unfailed { UnlessFault result (D.says.faults disk.new ≡ D.says.faults disk.old) }

@@ -23,7 +23,8 @@ const ROOT: u32 = 0;
 /// writes nothing.
 pub fn make_files<D: Disk>(journal: &mut D, archive: &mut D) -> Result<(), MakeFault>
     ensures made { OnOk result ((image : Files) → D.says.may_leave journal.new image → HasCommitted made image) }
-    ensures empty_depot { OnOk result ((image contents : Files) → D.says.may_leave journal.new image → StandFor [] image contents) }
+    ensures empty_depot { OnOk result ((image contents : Files) → D.says.may_leave journal.new image →
+        StandFor [] image contents) }
     // Each disk that told what it reads still does, whatever is answered.
     ensures journal_told { StillTells (D.says.seen journal.old) (D.says.seen journal.new) }
     ensures archive_told { StillTells (D.says.seen archive.old) (D.says.seen archive.new) }
@@ -36,7 +37,8 @@ pub fn make_files<D: Disk>(journal: &mut D, archive: &mut D) -> Result<(), MakeF
     // Whatever is answered, each image of the archive, at every moment, is one that it had, and it reads as before
     // unless its sync failed.
     ensures archive_looks { LooksOnly D.says archive.old archive.new }
-    ensures archive_reads { Same (D.says.seen archive.old) (D.says.seen archive.new) ⊎ ((result ≡ Err DiskFault) × HasRisen (D.says.faults archive.old) (D.says.faults archive.new)) }
+    ensures archive_reads { Same (D.says.seen archive.old) (D.says.seen archive.new) ⊎ ((result ≡ Err DiskFault) ×
+        HasRisen (D.says.faults archive.old) (D.says.faults archive.new)) }
     ensures unmade { (files : Files) → D.says.seen journal.old files → OnOk result (length (files 0) ≡ 0) }
     ensures there { (files : Files) → D.says.seen journal.old files → result ≡ Err Made → length (files 0) ≢ 0 }
     ensures exactly { (files : Files) → D.says.seen journal.old files → length (files 0) ≢ 0 →
@@ -46,7 +48,8 @@ pub fn make_files<D: Disk>(journal: &mut D, archive: &mut D) -> Result<(), MakeF
         OnlyReads D.says journal.old journal.new × (archive.new ≡ archive.old) }
     ensures untouched { result ≡ Err Made → OnlyReads D.says journal.old journal.new × (archive.new ≡ archive.old) }
     ensures unfailed { result ≢ Err DiskFault →
-        (D.says.faults journal.new ≡ D.says.faults journal.old) × (D.says.faults archive.new ≡ D.says.faults archive.old) }
+        (D.says.faults journal.new ≡ D.says.faults journal.old) ×
+        (D.says.faults archive.new ≡ D.says.faults archive.old) }
     ensures cause { AreCauses (D.says.faults journal.old) (D.says.faults journal.new) (D.says.faults archive.old) (D.says.faults archive.new) (result ≡ Err DiskFault) }
 {
     let length = journal.length(ROOT)?;

@@ -60,7 +60,8 @@ fn read_depot<D: Disk>(alloc: Global, journal: &mut D, archive: &mut D) -> Resul
     ensures contents { (contents : Files) → D.says.seen archive.old contents →
         IfOk result (λ found. AreWhole (contents 0) (rows_of found.tables Rev)) }
     ensures suit { IfOk result (λ found. SuitFiles found.generation (rows_of found.tables)) }
-    ensures synced { IfOk result (λ found. HasSynced D.says journal.old journal.new × HasSynced D.says archive.old archive.new) }
+    ensures synced { IfOk result (λ found. HasSynced D.says journal.old journal.new ×
+        HasSynced D.says archive.old archive.new) }
     ensures only { (files contents : Files) (rows : AllRows) → D.says.seen journal.old files →
         D.says.seen archive.old contents → HoldWhole files contents rows →
         IsReadOrSaysNothing result (λ found. (table : TableId) → rows_of found.tables table ≡ rows table) }
@@ -69,12 +70,14 @@ fn read_depot<D: Disk>(alloc: Global, journal: &mut D, archive: &mut D) -> Resul
     ensures unmade { (files : Files) → D.says.seen journal.old files → result ≡ Err Unmade → length (files 0) ≡ 0 }
     ensures exactly { (files : Files) → D.says.seen journal.old files → length (files 0) ≡ 0 →
         IsUnmadeOrSaysNothing result }
-    ensures read { IfErr result (λ fault. fault ≢ DiskFault → HasSynced D.says journal.old journal.new × HasSynced D.says archive.old archive.new) }
+    ensures read { IfErr result (λ fault. fault ≢ DiskFault →
+        HasSynced D.says journal.old journal.new × HasSynced D.says archive.old archive.new) }
     ensures journal_looks { LooksOnly D.says journal.old journal.new }
     ensures archive_looks { LooksOnly D.says archive.old archive.new }
     ensures journal_told { StillTells (D.says.seen journal.old) (D.says.seen journal.new) }
     ensures archive_told { StillTells (D.says.seen archive.old) (D.says.seen archive.new) }
-    ensures unfailed { UnlessFault result ((D.says.faults journal.new ≡ D.says.faults journal.old) × (D.says.faults archive.new ≡ D.says.faults archive.old)) }
+    ensures unfailed { UnlessFault result ((D.says.faults journal.new ≡ D.says.faults journal.old) ×
+        (D.says.faults archive.new ≡ D.says.faults archive.old)) }
     ensures cause { AreCauses (D.says.faults journal.old) (D.says.faults journal.new) (D.says.faults archive.old) (D.says.faults archive.new) (result ≡ Err DiskFault) }
 {
     journal.sync()?;
@@ -119,7 +122,8 @@ pub fn open_files<D: Disk>(alloc: Global, journal: D, archive: D) -> Result<Open
     ensures unmade { (files : Files) → D.says.seen journal files → IsUnmade result → length (files 0) ≡ 0 }
     ensures exactly { (files : Files) → D.says.seen journal files → length (files 0) ≡ 0 → UnmadeOrSaysNothing result }
     // Files that aren't opened, where no disk failed, read as before, and a crash leaves what they read.
-    ensures unopened { IfErr result (λ found. found.fault ≢ DiskFault → HasSynced D.says journal found.journal × HasSynced D.says archive found.archive) }
+    ensures unopened { IfErr result (λ found. found.fault ≢ DiskFault →
+        HasSynced D.says journal found.journal × HasSynced D.says archive found.archive) }
     ensures journal_synced { IfOk result (λ opened. HasSynced D.says journal (disk_of opened.journal)) }
     ensures archive_synced { IfOk result (λ opened. HasSynced D.says archive (archive_of opened.archive)) }
     ensures journal_looks { LooksOnly D.says journal (journal_disk result) }
@@ -129,7 +133,8 @@ pub fn open_files<D: Disk>(alloc: Global, journal: D, archive: D) -> Result<Open
     ensures archive_told { StillTells (D.says.seen archive) (D.says.seen (archive_disk result)) }
     // Where no fault of a disk is answered the counts of both disks stand.
     ensures unfailed { (IsDiskFault result → ⊥) →
-        (D.says.faults (journal_disk result) ≡ D.says.faults journal) × (D.says.faults (archive_disk result) ≡ D.says.faults archive) }
+        (D.says.faults (journal_disk result) ≡ D.says.faults journal) ×
+        (D.says.faults (archive_disk result) ≡ D.says.faults archive) }
     ensures cause { AreCauses (D.says.faults journal) (D.says.faults (journal_disk result)) (D.says.faults archive) (D.says.faults (archive_disk result)) (IsDiskFault result) }
 {
     let mut journal = journal;

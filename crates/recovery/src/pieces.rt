@@ -62,7 +62,8 @@ impl FileGroups {
         requires number { number < 2 ^ 63 }
         ensures text { (files : Files) → D.says.seen disk.old files →
             IfOk result (λ groups. (text_left groups files ≡ front ++ files file) × KnowsEnd groups files) }
-        ensures at { IfOk result (λ groups. (groups.file ≡ file) × (groups.front ≡ length front) × (groups.reader.at ≡ 0) × (groups.reader.number ≡ number)) }
+        ensures at { IfOk result (λ groups. (groups.file ≡ file) × (groups.front ≡ length front) ×
+            (groups.reader.at ≡ 0) × (groups.reader.number ≡ number)) }
         ensures fault { IfErr result SaysNothing }
         ensures reads { OnlyReads D.says disk.old disk.new }
         ensures unfailed { UnlessFault result (D.says.faults disk.new ≡ D.says.faults disk.old) }
@@ -101,7 +102,8 @@ impl FileGroups {
         ensures text { (files : Files) → D.says.seen disk.old files → KnowsEnd self.old files →
             OnOk result ((text_left self.new files ≡ text_left self.old files) × KnowsEnd self.new files) }
         ensures goes_on { OnOk result (self.new.length - self.new.read < self.old.length - self.old.read) }
-        ensures reader { (self.new.file ≡ self.old.file) × (self.new.front ≡ self.old.front) × (self.new.reader.at ≡ self.old.reader.at) × (self.new.reader.number ≡ self.old.reader.number) }
+        ensures reader { (self.new.file ≡ self.old.file) × (self.new.front ≡ self.old.front) ×
+            (self.new.reader.at ≡ self.old.reader.at) × (self.new.reader.number ≡ self.old.reader.number) }
         ensures fault { IfErr result SaysNothing }
         ensures reads { OnlyReads D.says disk.old disk.new }
         ensures unfailed { UnlessFault result (D.says.faults disk.new ≡ D.says.faults disk.old) }
@@ -132,7 +134,8 @@ impl FileGroups {
             OnOk result ((text_left self.new files ≡ text_left self.old files) × KnowsEnd self.new files) }
         ensures goes_on { OnOk result (self.new.length - self.new.read < self.old.length - self.old.read) }
         ensures enough { OnOk result ((self.old.read + wanted ≤ self.new.read) ⊎ (self.new.read ≡ self.new.length)) }
-        ensures reader { (self.new.file ≡ self.old.file) × (self.new.front ≡ self.old.front) × (self.new.reader.at ≡ self.old.reader.at) × (self.new.reader.number ≡ self.old.reader.number) }
+        ensures reader { (self.new.file ≡ self.old.file) × (self.new.front ≡ self.old.front) ×
+            (self.new.reader.at ≡ self.old.reader.at) × (self.new.reader.number ≡ self.old.reader.number) }
         ensures fault { IfErr result SaysNothing }
         ensures reads { OnlyReads D.says disk.old disk.new }
         ensures unfailed { UnlessFault result (D.says.faults disk.new ≡ D.says.faults disk.old) }

@@ -53,7 +53,8 @@ pub fn make_fitting(
     ensures within { IfOk result (λ n. n ≤ length changes.now) }
     ensures fit { IfOk result (λ n. AllFitIn (rows_of_draft draft.old) (take n changes.now)) }
     ensures rows { IfOk result (λ n. rows_of_draft draft.new ≡ changed_by (rows_of_draft draft.old) (take n changes.now)) }
-    ensures next { IfOk result (λ n. n < length changes.now → AllFitIn (rows_of_draft draft.old) (take (n + 1) changes.now) → ⊥) }
+    ensures next { IfOk result (λ n. n < length changes.now →
+        AllFitIn (rows_of_draft draft.old) (take (n + 1) changes.now) → ⊥) }
 {
     for (i, change) in changes.iter().enumerate() {
         if !draft.fits(change) {
@@ -128,11 +129,13 @@ fn put_next<D: Disk>(
 ) -> Result<u64, OpenFault>
     requires room { 0 < length piece.old }
     requires some { 0 < size }
-    requires taken { (generation : ℕ) × ((puts : List Change) × (HasTaken (D.says.seen disk.old) generation groups.old size puts × HasPut puts last.old (rows_of_draft draft.old))) }
+    requires taken { (generation : ℕ) ×
+        ((puts : List Change) × (HasTaken (D.says.seen disk.old) generation groups.old size puts × HasPut puts last.old (rows_of_draft draft.old))) }
     ensures put { (generation : ℕ) (puts : List Change) →
         HasTaken (D.says.seen disk.old) generation groups.old size puts →
         HasPut puts last.old (rows_of_draft draft.old) →
-        IfOk result (λ behind. (put : Change) × (HasTaken (D.says.seen disk.old) generation groups.new behind (puts ++ put ∷ []) × HasPut (puts ++ put ∷ []) last.new (rows_of_draft draft.new))) }
+        IfOk result (λ behind. (put : Change) ×
+        (HasTaken (D.says.seen disk.old) generation groups.new behind (puts ++ put ∷ []) × HasPut (puts ++ put ∷ []) last.new (rows_of_draft draft.new))) }
     ensures less { IfOk result (λ behind. behind < size) }
     ensures damaged { (generation : ℕ) (puts : List Change) →
         HasTaken (D.says.seen disk.old) generation groups.old size puts →
@@ -206,7 +209,8 @@ fn next_changes<D: Disk>(
 ) -> Result<Option<Sequence<Change>>, OpenFault>
     requires room { 0 < length piece.old }
     ensures text { (files : Files) → D.says.seen disk.old files → KnowsEnd groups.old files →
-        IfOk result (λ found. KnowsEnd groups.new files × IsFirst groups.old.reader.number (text_left groups.old files) (text_left groups.new files) found) }
+        IfOk result (λ found. KnowsEnd groups.new files ×
+        IsFirst groups.old.reader.number (text_left groups.old files) (text_left groups.new files) found) }
     ensures come { IfOk result (HasCome groups.old groups.new) }
     ensures file { (groups.new.file ≡ groups.old.file) × (groups.new.front ≡ groups.old.front) }
     ensures draft { IfOk result (λ found. rows_of_draft draft.new ≡ rows_of_draft draft.old) }
@@ -214,7 +218,8 @@ fn next_changes<D: Disk>(
         groups.old.reader.number < 2 ^ 64 → BeginsWanted groups.old.reader.number (text_left groups.old files) →
         IfErr result SaysNothing }
     ensures damaged { (files : Files) → D.says.seen disk.old files → KnowsEnd groups.old files →
-        IfDamaged result (λ place. (found : ℕ) × ((place ≡ found - groups.old.front) × IsTextDamage (AllFitIn (rows_of_draft draft.old)) groups.old.reader.number groups.old.reader.at (text_left groups.old files) found)) }
+        IfDamaged result (λ place. (found : ℕ) ×
+        ((place ≡ found - groups.old.front) × IsTextDamage (AllFitIn (rows_of_draft draft.old)) groups.old.reader.number groups.old.reader.at (text_left groups.old files) found)) }
     ensures fault { IfErr result (IsOfFile groups.old.file) }
     ensures reads { OnlyReads D.says disk.old disk.new }
     ensures unfailed { UnlessFault result (D.says.faults disk.new ≡ D.says.faults disk.old) }

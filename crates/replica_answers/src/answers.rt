@@ -34,7 +34,8 @@ fn turned_away(alloc: Global, command: &Command) -> Result<Reply, AllocError>
 
 /// The reply that these rows give.
 fn evaluated(alloc: Global, tables: &Tables, request: &Request) -> Result<Reply, AllocError>
-    ensures { IfOk result (λ reply. (d : List Deed) → Stand (rows_of tables.now) d → IsFormedBy request.now → reply.rows ≡ map waiting (step d request.now).rows) }
+    ensures { IfOk result (λ reply. (d : List Deed) → Stand (rows_of tables.now) d → IsFormedBy request.now →
+        reply.rows ≡ map waiting (step d request.now).rows) }
 {
     let Outcome {
         reply,
@@ -55,7 +56,8 @@ pub(crate) fn waiting_reply(
     replica: &Replica,
     request: &Request,
 ) -> Result<Reply, AllocError>
-    ensures { IfOk result (λ reply. (d : List Deed) → Stand (rows_of replica.now.tables) d → IsFormedBy request.now → reply.rows ≡ map waiting (replica_reply d request.now)) }
+    ensures { IfOk result (λ reply. (d : List Deed) → Stand (rows_of replica.now.tables) d → IsFormedBy request.now →
+        reply.rows ≡ map waiting (replica_reply d request.now)) }
 {
     match &request.command {
         Ok(command) => {
@@ -72,7 +74,8 @@ pub(crate) fn waiting_reply(
 /// change a row. Nothing is changed. The one error is want of memory.
 pub fn answer(alloc: Global, replica: &Replica, request: &Request) -> Result<Reply, AllocError>
     requires { prints request.now.command ≡ false }
-    ensures { IfOk result (λ reply. (d : List Deed) → Stand (rows_of replica.now.tables) d → IsFormedBy request.now → reply.rows ≡ replica_reply d request.now) }
+    ensures { IfOk result (λ reply. (d : List Deed) → Stand (rows_of replica.now.tables) d → IsFormedBy request.now →
+        reply.rows ≡ replica_reply d request.now) }
 {
     waiting_reply(alloc, replica, request)
 }

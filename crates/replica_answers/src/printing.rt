@@ -202,11 +202,13 @@ fn fill_row<C: Contents>(
         row.old ≡ waiting told → C.tells contents.old before → HasContents before (rows_of tables.now) d →
         Gives (λ _. row.new ≡ told) result }
     ensures same { OnOk result (waiting row.new ≡ waiting row.old) }
-    ensures digested { OnOk result ((content : List ℕ) → row.new.content ≡ Some content → IsDigested (rows_of tables.now) row.new content) }
+    ensures digested { OnOk result ((content : List ℕ) → row.new.content ≡ Some content →
+        IsDigested (rows_of tables.now) row.new content) }
     ensures given { (before : List ℕ) → C.tells contents.old before →
         OnOk result (GrowsTo (C.tells contents.new) before (λ now. IsGivenIn (rows_of tables.now) now row.new)) }
     ensures fault { (before : List ℕ) → C.tells contents.old before →
-        IfErr result (λ fault. IsSome row.old.content × GrowsTo (C.tells contents.new) before (λ now. IsFaultOf (rows_of tables.now) now row.old fault)) }
+        IfErr result (λ fault. IsSome row.old.content ×
+        GrowsTo (C.tells contents.new) before (λ now. IsFaultOf (rows_of tables.now) now row.old fault)) }
     ensures grows { (before : List ℕ) → C.tells contents.old before →
         (now : List ℕ) × (C.tells contents.new now × IsFront before now) }
     ensures reached { Reaches C.keeps contents.old contents.new }
@@ -262,7 +264,8 @@ pub fn answer_print<C: Contents>(
     contents: &mut C,
     request: &Request,
 ) -> Result<Reply, PrintFault>
-    ensures rows { IfOk result (λ reply. (d : List Deed) → Stand (rows_of replica.now.tables) d → IsFormedBy request.now → AreRowsOf d request.now reply.rows) }
+    ensures rows { IfOk result (λ reply. (d : List Deed) → Stand (rows_of replica.now.tables) d →
+        IsFormedBy request.now → AreRowsOf d request.now reply.rows) }
     ensures digested { IfOk result (λ reply. AreDigested (rows_of replica.now.tables) reply.rows) }
     ensures told { (d : List Deed) (bytes : List ℕ) → Stand (rows_of replica.now.tables) d → IsFormedBy request.now →
         C.tells contents.old bytes →

@@ -157,10 +157,12 @@ impl<D: Disk> Node<D> {
         ensures up_looked { IsLooked D.says up.old.link.journal up.new.link.journal }
         // So were the links, from which the next nodes follow.
         ensures links { IsLinkLooked D.says self.old.link self.new.link × IsLinkLooked D.says up.old.link up.new.link }
-        ensures others { (self.new ≡ record self.old { link = self.new.link }) × (up.new ≡ record up.old { link = up.new.link }) }
+        ensures others { (self.new ≡ record self.old { link = self.new.link }) ×
+            (up.new ≡ record up.old { link = up.new.link }) }
         ensures nodes { (c : Chronicle) →
             (IsNode D.says self.old c → IsNode D.says self.new c) × (IsNode D.says up.old c → IsNode D.says up.new c) }
-        ensures can { (CanFollow D.says self.old → CanFollow D.says self.new) × (CanFollow D.says up.old → CanFollow D.says up.new) }
+        ensures can { (CanFollow D.says self.old → CanFollow D.says self.new) ×
+            (CanFollow D.says up.old → CanFollow D.says up.new) }
         ensures node_faults { D.says.faults (disk_of self.old.link.journal) ≤ D.says.faults (disk_of self.new.link.journal) }
         ensures up_faults { D.says.faults (disk_of up.old.link.journal) ≤ D.says.faults (disk_of up.new.link.journal) }
         ensures cause { OnErr result (HasRisen (D.says.faults (disk_of self.old.link.journal)) (D.says.faults (disk_of self.new.link.journal)) ⊎ HasRisen (D.says.faults (disk_of up.old.link.journal)) (D.says.faults (disk_of up.new.link.journal))) }

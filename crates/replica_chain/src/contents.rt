@@ -79,7 +79,8 @@ fn copy_piece<D: Disk, C: Contents>(
     requires above { used_of archive.old ≤ spot.at }
     requires room { AllReach (D.says.may_leave (disk_of archive.old)) spot.at }
     ensures fits { OnOk result (spot_end_of spot < 2 ^ 63) }
-    ensures copied { OnOk result ((content : List ℕ) × (((bytes : List ℕ) → C.tells contents.new bytes → Has bytes spot content) × (AllHave (D.says.may_leave (disk_of archive.new)) spot content × (length content ≡ spot.length)))) }
+    ensures copied { OnOk result ((content : List ℕ) ×
+        (((bytes : List ℕ) → C.tells contents.new bytes → Has bytes spot content) × (AllHave (D.says.may_leave (disk_of archive.new)) spot content × (length content ≡ spot.length)))) }
     ensures kept { (other : AnySpot) (bytes : List ℕ) → spot_end_of other ≤ spot.at →
         AllHave (D.says.may_leave (disk_of archive.old)) other bytes →
         AllHave (D.says.may_leave (disk_of archive.new)) other bytes }
@@ -90,7 +91,8 @@ fn copy_piece<D: Disk, C: Contents>(
     ensures used { used_of archive.new ≡ used_of archive.old }
     ensures grows { (before : List ℕ) → C.tells contents.old before →
         (now : List ℕ) × (C.tells contents.new now × IsFront before now) }
-    ensures absent { IfNoBytes result (λ place. (place ≡ spot.at) × ((bytes : List ℕ) → C.tells contents.new bytes → length bytes < spot_end_of spot)) }
+    ensures absent { IfNoBytes result (λ place. (place ≡ spot.at) ×
+        ((bytes : List ℕ) → C.tells contents.new bytes → length bytes < spot_end_of spot)) }
     ensures only { IfErr result IsOfCopying }
     ensures looked { C.keeps contents.old contents.new }
     ensures contents_cause { IsCause (C.faults contents.old) (C.faults contents.new) (result ≡ Err faults.ContentsFailed) }
@@ -120,7 +122,8 @@ fn copy_contents<D: Disk, C: Contents>(
     ensures keeps { KeepsUsed D.says archive.old archive.new }
     ensures grows { (before : List ℕ) → C.tells contents.old before →
         (now : List ℕ) × (C.tells contents.new now × IsFront before now) }
-    ensures absent { IfNoBytes result (λ place. (bytes : List ℕ) → C.tells contents.new bytes → IsAbsent bytes (used_of archive.old) end place) }
+    ensures absent { IfNoBytes result (λ place. (bytes : List ℕ) → C.tells contents.new bytes →
+        IsAbsent bytes (used_of archive.old) end place) }
     ensures only { IfErr result IsOfCopying }
     ensures contents_reached { Reaches C.keeps contents.old contents.new }
     ensures contents_cause { IsCause (C.faults contents.old) (C.faults contents.new) (result ≡ Err faults.ContentsFailed) }
@@ -145,7 +148,8 @@ pub(crate) fn check_content<D: Disk>(
         revision.now.at + revision.now.length ≤ length (files 0) → OnOk result (HasDigested (files 0) revision.now) }
     ensures bad { (files : Files) → D.says.seen (disk_of archive.old) files →
         revision.now.at + revision.now.length ≤ length (files 0) →
-        IfBadContent result (λ place. (place ≡ revision.now.at) × (revision.now.digest ≢ digest (bytes_at (files 0) revision.now))) }
+        IfBadContent result (λ place. (place ≡ revision.now.at) ×
+        (revision.now.digest ≢ digest (bytes_at (files 0) revision.now))) }
     ensures only { IfErr result IsOfContents }
     ensures reads { OnlyReads D.says (disk_of archive.old) (disk_of archive.new) }
     ensures used { used_of archive.new ≡ used_of archive.old }
@@ -175,7 +179,8 @@ fn check_named<D: Disk>(
         named_end change.now.op change.now.row ≤ length (files 0) → OnOk result (HasNamed (files 0) change.now) }
     ensures bad { (files : Files) → D.says.seen (disk_of archive.old) files →
         named_end change.now.op change.now.row ≤ length (files 0) →
-        IfBadContent result (λ place. (row : AnyRevision) × (IsOfContent change.now row × ((place ≡ row.at) × (row.digest ≢ digest (bytes_at (files 0) row))))) }
+        IfBadContent result (λ place. (row : AnyRevision) ×
+        (IsOfContent change.now row × ((place ≡ row.at) × (row.digest ≢ digest (bytes_at (files 0) row))))) }
     ensures only { IfErr result IsOfContents }
     ensures reads { OnlyReads D.says (disk_of archive.old) (disk_of archive.new) }
     ensures used { used_of archive.new ≡ used_of archive.old }
@@ -220,8 +225,10 @@ pub(crate) fn bring_contents<D: Disk, C: Contents>(
     requires small { used_of archive.old < 2 ^ 63 }
     ensures filled { IsFilled D.says (C.tells contents.old) (C.tells contents.new) archive.old archive.new }
     ensures brought { OnOk result (AreBrought D.says archive.new changes.now) }
-    ensures absent { IfNoBytes result (λ place. (bytes : List ℕ) → C.tells contents.new bytes → IsAbsent bytes (used_of archive.new) (named_ends changes.now) place) }
-    ensures bad { IfBadContent result (λ place. (files : Files) → D.says.seen (disk_of archive.new) files → IsBadContent (files 0) changes.now place) }
+    ensures absent { IfNoBytes result (λ place. (bytes : List ℕ) → C.tells contents.new bytes →
+        IsAbsent bytes (used_of archive.new) (named_ends changes.now) place) }
+    ensures bad { IfBadContent result (λ place. (files : Files) → D.says.seen (disk_of archive.new) files →
+        IsBadContent (files 0) changes.now place) }
     ensures only { IfErr result IsOfBringing }
     ensures contents_reached { Reaches C.keeps contents.old contents.new }
     ensures contents_cause { IsCause (C.faults contents.old) (C.faults contents.new) (result ≡ Err faults.ContentsFailed) }

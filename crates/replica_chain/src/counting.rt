@@ -194,7 +194,8 @@ fn count_generation<D: Disk>(
 /// The one, with those of a generation behind it. As many bytes as all files together can't have are answered as want
 /// of memory.
 fn counted_on(before: Count, more: Count) -> Result<Count, AllocError>
-    ensures { IfOk result (λ count. (count.groups ≡ before.groups + more.groups) × (count.bytes ≡ before.bytes + more.bytes)) }
+    ensures { IfOk result (λ count. (count.groups ≡ before.groups + more.groups) ×
+        (count.bytes ≡ before.bytes + more.bytes)) }
 {
     if more.bytes > MOST - before.bytes {
         return Err(AllocError);
@@ -215,8 +216,10 @@ fn count_through<D: Disk>(
     ensures counted { (c : Chronicle) → HasTexts D.says journal.old (texts_of c) →
         generation_of_journal journal.old ≡ length c.closed →
         AllByRecursion (AllByRecursion IsGroup) (generations_of c) →
-        IfOk result (λ counts. (counts.before.bytes + counts.newest.bytes ≡ length (concat (texts_of c))) × (counts.newest.bytes ≡ length (groups_text 1 c.newest))
-        × (counts.newest.groups ≡ length c.newest) × (counts.before.groups + counts.newest.groups + length c.closed ≡ length (changes_of c))) }
+        IfOk result (λ counts. (counts.before.bytes + counts.newest.bytes ≡ length (concat (texts_of c))) ×
+        (counts.newest.bytes ≡ length (groups_text 1 c.newest))
+        × (counts.newest.groups ≡ length c.newest) ×
+        (counts.before.groups + counts.newest.groups + length c.closed ≡ length (changes_of c))) }
     ensures only { IfErr result SaysNothing }
     ensures looked { IsLooked D.says journal.old journal.new }
     ensures cause { IsCause (D.says.faults (disk_of journal.old)) (D.says.faults (disk_of journal.new)) (result ≡ Err DiskFault) }
@@ -244,8 +247,10 @@ pub(crate) fn count_journal<D: Disk>(
     ensures counted { (c : Chronicle) → HasTexts D.says journal.old (texts_of c) →
         generation_of_journal journal.old ≡ length c.closed →
         AllByRecursion (AllByRecursion IsGroup) (generations_of c) →
-        IfOk result (λ counts. (counts.before.bytes + counts.newest.bytes ≡ length (concat (texts_of c))) × (counts.newest.bytes ≡ length (groups_text 1 c.newest))
-        × (counts.newest.groups ≡ length c.newest) × (counts.before.groups + counts.newest.groups + length c.closed ≡ length (changes_of c))) }
+        IfOk result (λ counts. (counts.before.bytes + counts.newest.bytes ≡ length (concat (texts_of c))) ×
+        (counts.newest.bytes ≡ length (groups_text 1 c.newest))
+        × (counts.newest.groups ≡ length c.newest) ×
+        (counts.before.groups + counts.newest.groups + length c.closed ≡ length (changes_of c))) }
     ensures only { IfErr result SaysNothing }
     ensures looked { IsLooked D.says journal.old journal.new }
     ensures cause { IsCause (D.says.faults (disk_of journal.old)) (D.says.faults (disk_of journal.new)) (result ≡ Err DiskFault) }

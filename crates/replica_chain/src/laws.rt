@@ -45,7 +45,8 @@ pub fn nodes_open_at_every_moment<D: Disk>(old: &Node<D>, new: &Node<D>)
     ensures { (mine theirs : Chronicle) (bytes : List ℕ) (after : ℕ → List Deed) → IsMaster theirs bytes after →
         IsNode D.says old.now mine →
         StaysBehind D.says old.now new.now mine (record { texts = texts_of theirs; bytes = bytes }) →
-        LeavesOnly D.says (disk_of old.now.link.journal) (disk_of new.now.link.journal) (λ journal. (archive : Files) → D.says.may_leave (archive_disk_of new.now.archive) archive →
+        LeavesOnly D.says (disk_of old.now.link.journal) (disk_of new.now.link.journal) (λ journal. (archive : Files) →
+        D.says.may_leave (archive_disk_of new.now.archive) archive →
         StandsAfter after (length (changes_of mine)) (length (changes_of theirs)) journal archive) }
 {}
 
@@ -80,7 +81,8 @@ pub fn nodes_opened_are_behind<D: Disk>(node: &Node<D>)
     ensures { (c : Chronicle) (texts : List (List ℕ)) (bytes : List ℕ) → IsNode D.says node.now c →
         IsFresh D.says node.now → IsComparison (texts_of c) texts None →
         spots_end (rows_made c Rev) ≤ length bytes →
-        ((image : Files) → D.says.may_leave (archive_disk_of node.now.archive) image → take (spots_end (rows_made c Rev)) (image 0) ≡ take (spots_end (rows_made c Rev)) bytes) →
+        ((image : Files) → D.says.may_leave (archive_disk_of node.now.archive) image →
+        take (spots_end (rows_made c Rev)) (image 0) ≡ take (spots_end (rows_made c Rev)) bytes) →
         IsBehind D.says node.now c (record { texts = texts; bytes = bytes }) }
 {}
 

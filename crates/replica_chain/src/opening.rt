@@ -37,8 +37,11 @@ pub struct NotNode<D: Disk> {
 
 /// The node of files that are open and were counted.
 fn node_of<D: Disk>(alloc: Global, opened: Opened<D>, counts: Counts) -> Node<D>
-    ensures parts { (result.link.journal ≡ opened.journal) × (result.archive ≡ opened.archive) × (result.tables ≡ opened.tables) × (result.rest ≡ []) }
-    ensures counts { (result.before ≡ counts.before.bytes) × (result.at ≡ counts.newest.bytes) × (result.number ≡ 1 + counts.newest.groups) × (result.changes ≡ counts.before.groups + counts.newest.groups + generation_of_journal opened.journal) }
+    ensures parts { (result.link.journal ≡ opened.journal) × (result.archive ≡ opened.archive) ×
+        (result.tables ≡ opened.tables) × (result.rest ≡ []) }
+    ensures counts { (result.before ≡ counts.before.bytes) × (result.at ≡ counts.newest.bytes) ×
+        (result.number ≡ 1 + counts.newest.groups) ×
+        (result.changes ≡ counts.before.groups + counts.newest.groups + generation_of_journal opened.journal) }
     ensures scanned { (file : List ℕ) → IsMarkOf result.link.scanned file }
 {
     let Opened {
@@ -64,7 +67,8 @@ fn node_of<D: Disk>(alloc: Global, opened: Opened<D>, counts: Counts) -> Node<D>
 
 /// The disks of files that couldn't be counted.
 fn not_counted<D: Disk>(opened: Opened<D>, fault: OpenFault) -> NotNode<D>
-    ensures { (result.fault ≡ fault) × (result.journal ≡ disk_of opened.journal) × (result.archive ≡ archive_of opened.archive) }
+    ensures { (result.fault ≡ fault) × (result.journal ≡ disk_of opened.journal) ×
+        (result.archive ≡ archive_of opened.archive) }
 {
     let Opened {
         tables,
@@ -98,7 +102,8 @@ impl<D: Disk> Node<D> {
         ensures damaged { (files contents : Files) → D.says.seen journal files → D.says.seen archive contents →
             IfErr result (λ found. Tells (IsDamage files contents) found.fault) }
         ensures unmade { (files : Files) → D.says.seen journal files → IsUnmade result → length (files 0) ≡ 0 }
-        ensures unopened { IfErr result (λ found. found.fault ≢ DiskFault → HasSynced D.says journal found.journal × HasSynced D.says archive found.archive) }
+        ensures unopened { IfErr result (λ found. found.fault ≢ DiskFault →
+            HasSynced D.says journal found.journal × HasSynced D.says archive found.archive) }
         ensures journal_synced { IfOk result (λ node. HasSynced D.says journal (journal_disk result)) }
         ensures archive_synced { IfOk result (λ node. HasSynced D.says archive (archive_disk result)) }
         ensures journal_looks { LooksOnly D.says journal (journal_disk result) }

@@ -45,7 +45,9 @@ fn write_next<D: Disk>(
         OnOk result (Stands D.says journal.new (with_generation was (checkpoint_text next (rows_of tables.now))) nothing) }
     ensures err { (was : Committed) → Stands D.says journal.old was nothing → IsErr result →
         IsStill D.says journal.old journal.new was
-        ⊎ (Stands D.says journal.new was (opening (checkpoint_text next (rows_of tables.now))) × (AreRecords (puts_of (rows_of tables.now)) → IsCheckpointOf next (rows_of tables.now) (checkpoint_text next (rows_of tables.now)))) }
+        ⊎ (Stands D.says journal.new was (opening (checkpoint_text next (rows_of tables.now))) ×
+        (AreRecords (puts_of (rows_of tables.now)) →
+        IsCheckpointOf next (rows_of tables.now) (checkpoint_text next (rows_of tables.now)))) }
     // Where each row has a text, these are read again as the rows of the checkpoint.
     ensures checkpoint { AreRecords (puts_of (rows_of tables.now)) →
         OnOk result (IsCheckpointOf next (rows_of tables.now) (checkpoint_text next (rows_of tables.now))) }

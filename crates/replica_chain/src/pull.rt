@@ -69,8 +69,10 @@ impl<D: Disk> Node<D> {
         ensures older { (older : List (List (List ℕ))) → KeepsOlder D.says self.old.link.journal older →
             KeepsOlder D.says self.new.link.journal older }
         ensures scanned { KeepsScanned D.says self.old.link self.new.link }
-        ensures absent { IfNoBytes result (λ place. (bytes : List ℕ) → C.tells contents.new bytes → IsAbsent bytes (used_of self.new.archive) (named_ends changes.now) place) }
-        ensures bad { IfBadContent result (λ place. (files : Files) → D.says.seen (archive_disk_of self.new.archive) files → IsBadContent (files 0) changes.now place) }
+        ensures absent { IfNoBytes result (λ place. (bytes : List ℕ) → C.tells contents.new bytes →
+            IsAbsent bytes (used_of self.new.archive) (named_ends changes.now) place) }
+        ensures bad { IfBadContent result (λ place. (files : Files) →
+            D.says.seen (archive_disk_of self.new.archive) files → IsBadContent (files 0) changes.now place) }
         ensures only { IfErr result IsOfBringing }
         ensures contents_reached { Reaches C.keeps contents.old contents.new }
         ensures contents_cause { IsCause (C.faults contents.old) (C.faults contents.new) (result ≡ Err faults.ContentsFailed) }
@@ -148,7 +150,8 @@ impl<D: Disk> Node<D> {
         ensures can { CanFollow D.says self.new }
         ensures settled { OnOk result (IsSettled D.says self.new) }
         ensures rest { self.new.rest ≡ [] }
-        ensures taken { IfOk result (λ count. (groups : List (List AnyChange)) × ((count ≡ length groups) × HasTakenGroups self.old self.new reader.old groups reader.new)) }
+        ensures taken { IfOk result (λ count. (groups : List (List AnyChange)) ×
+            ((count ≡ length groups) × HasTakenGroups self.old self.new reader.old groups reader.new)) }
         ensures waits { OnOk result (GoesOn reader.new.number reader.new.left) }
         ensures fit { OnOk result (AreAllGood (AllFitIn (rows_of self.new.tables)) (BeginsAt reader.new.number reader.new.at reader.new.left)) }
         ensures cut_short { IfErr result (IsCutShort D.says (C.tells contents.new) self.old self.new reader.old) }

@@ -66,7 +66,8 @@ fn make_fitting(
     ensures within { IfOk result (λ n. n ≤ length changes.now) }
     ensures fit { IfOk result (λ n. Fit filter.now (rows_of_draft draft.old) (take n changes.now)) }
     ensures rows { IfOk result (λ n. rows_of_draft draft.new ≡ changed_cut filter.now (rows_of_draft draft.old) (take n changes.now)) }
-    ensures next { IfOk result (λ n. n < length changes.now → Fit filter.now (rows_of_draft draft.old) (take (n + 1) changes.now) → ⊥) }
+    ensures next { IfOk result (λ n. n < length changes.now →
+        Fit filter.now (rows_of_draft draft.old) (take (n + 1) changes.now) → ⊥) }
 {
     for (i, change) in changes.iter().enumerate() {
         let made = make_change(alloc, filter, draft, change)?;
@@ -147,7 +148,8 @@ fn take_groups(
     draft: &mut TablesDraft,
 ) -> Result<u64, PullFault>
     requires short { reader.old.at + length reader.old.left < 2 ^ 63 }
-    ensures taken { IfOk result (λ n. (groups : List (List Change)) × ((n ≡ length groups) × AreTaken filter.now reader.old (rows_of_draft draft.old) groups reader.new (rows_of_draft draft.new))) }
+    ensures taken { IfOk result (λ n. (groups : List (List Change)) ×
+        ((n ≡ length groups) × AreTaken filter.now reader.old (rows_of_draft draft.old) groups reader.new (rows_of_draft draft.new))) }
     ensures waits { IfOk result (λ n. GoesOn reader.new.number reader.new.left) }
     ensures records { IfOk result (λ n. HasRecords reader.new.number reader.new.at reader.new.left reader.new.records reader.new.reached) }
     ensures bad { IfBadFeed result (IsBadFeed filter.now reader.old (rows_of_draft draft.old)) }
@@ -201,7 +203,8 @@ pub fn take_feed(
     reader: &mut GroupReader,
 ) -> Result<Taken, PullFault>
     requires short { reader.old.at + length reader.old.left < 2 ^ 63 }
-    ensures taken { IfOk result (λ taken. (groups : List (List Change)) × ((taken.groups ≡ length groups) × AreTaken filter.now reader.old (rows_of tables.now) groups reader.new (rows_of taken.tables))) }
+    ensures taken { IfOk result (λ taken. (groups : List (List Change)) ×
+        ((taken.groups ≡ length groups) × AreTaken filter.now reader.old (rows_of tables.now) groups reader.new (rows_of taken.tables))) }
     ensures waits { IfOk result (λ taken. GoesOn reader.new.number reader.new.left) }
     ensures fit { IfOk result (λ taken. AreAllGood (Fit filter.now (rows_of taken.tables)) (BeginsAt reader.new.number reader.new.at reader.new.left)) }
     ensures bad { IfBadFeed result (IsBadFeed filter.now reader.old (rows_of tables.now)) }

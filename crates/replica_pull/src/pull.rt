@@ -172,7 +172,8 @@ impl Replica {
     /// Takes what is whole of the rest and a piece behind it.
     fn feed(&self, alloc: Global, piece: &[u8]) -> Result<Fed, PullFault>
         requires { length piece.now ≤ 65536 }
-        ensures fed { IfOk result (λ fed. (groups : List (List Change)) × ((now : State) × ((fed.taken.groups ≡ length groups) × ((now.left ≡ fed.rest) ×
+        ensures fed { IfOk result (λ fed. (groups : List (List Change)) ×
+            ((now : State) × ((fed.taken.groups ≡ length groups) × ((now.left ≡ fed.rest) ×
             (AreTaken self.now.filter (with_piece self.now piece.now) (rows_of self.now.tables) groups now (rows_of fed.taken.tables) × Waits self.now.filter (rows_of fed.taken.tables) now))))) }
         ensures room { IfOk result (λ fed. self.now.taken + length piece.now < 2 ^ 63) }
         ensures bad { IfBadFeed result (IsBadPiece self.now piece.now) }
@@ -268,7 +269,8 @@ impl Replica {
         requires room { 0 < length buffer.old }
         requires most { length buffer.old ≤ 65536 }
         // What was done is what the link answered, of the journal as its master had it then.
-        ensures moved { IfOk result (λ moved. (fetched : Fetched) × ((piece : List ℕ) × (HasMoved self.old self.new fetched piece moved × (Fits fetched 65536 ×
+        ensures moved { IfOk result (λ moved. (fetched : Fetched) ×
+            ((piece : List ℕ) × (HasMoved self.old self.new fetched piece moved × (Fits fetched 65536 ×
             ((now : List (List ℕ)) → L.says.tells link.new now → (earlier : List (List ℕ)) × (IsEarlier earlier now × Answers earlier self.old.generation self.old.at fetched piece)))))) }
         ensures kept { OnErr result (self.new ≡ self.old) }
         ensures never_falls { self.old.changes ≤ self.new.changes }
@@ -290,7 +292,8 @@ impl Replica {
     /// is closed the next one begins. After an error the replica is as it was.
     pub fn pull<L: Link>(&mut self, alloc: Global, link: &mut L) -> Result<Moved, PullFault>
         // What was done is what the link answered, of the journal as its master had it then.
-        ensures moved { IfOk result (λ moved. (fetched : Fetched) × ((piece : List ℕ) × (HasMoved self.old self.new fetched piece moved × (Fits fetched 65536 ×
+        ensures moved { IfOk result (λ moved. (fetched : Fetched) ×
+            ((piece : List ℕ) × (HasMoved self.old self.new fetched piece moved × (Fits fetched 65536 ×
             ((now : List (List ℕ)) → L.says.tells link.new now → (earlier : List (List ℕ)) × (IsEarlier earlier now × Answers earlier self.old.generation self.old.at fetched piece)))))) }
         ensures kept { OnErr result (self.new ≡ self.old) }
         ensures never_falls { self.old.changes ≤ self.new.changes }
@@ -301,7 +304,8 @@ impl Replica {
         // A master's journal is never a bad feed to a replica that has followed it.
         ensures good { (rules : List FilterRule) (before : List (List ℕ)) → L.says.tells link.old before →
             HasPrefix rules before self.old →
-            ((now : List (List ℕ)) → L.says.tells link.new now → (generations : List (List (List Change))) × IsGoodJournal now generations) →
+            ((now : List (List ℕ)) → L.says.tells link.new now →
+            (generations : List (List (List Change))) × IsGoodJournal now generations) →
             IfBadFeed result (λ place. ⊥) }
         ensures grows { (before : List (List ℕ)) → L.says.tells link.old before →
             (now : List (List ℕ)) × (L.says.tells link.new now × ((now ≡ before) ⊎ IsEarlier before now)) }

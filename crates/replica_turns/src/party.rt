@@ -98,9 +98,11 @@ impl ReplicaParty {
             IfOk result (λ answered. IsAnsweredBy (λ been. been ≡ depot) D.says self.now.replica self.now.replica request.now answered.text answered.lost) }
         ensures read { IsRead D.says archive.old archive.new }
         ensures never_falls { D.says.faults (archive_disk_of archive.old) ≤ D.says.faults (archive_disk_of archive.new) }
-        ensures only { IfOk result (λ answered. answered.lost ≡ false → D.says.faults (archive_disk_of archive.new) ≡ D.says.faults (archive_disk_of archive.old)) }
+        ensures only { IfOk result (λ answered. answered.lost ≡ false →
+            D.says.faults (archive_disk_of archive.new) ≡ D.says.faults (archive_disk_of archive.old)) }
         ensures no_memory { OnErr result (D.says.faults (archive_disk_of archive.new) ≡ D.says.faults (archive_disk_of archive.old)) }
-        ensures cause { IfOk result (λ answered. answered.lost ≡ true → HasRisen (D.says.faults (archive_disk_of archive.old)) (D.says.faults (archive_disk_of archive.new))) }
+        ensures cause { IfOk result (λ answered. answered.lost ≡ true →
+            HasRisen (D.says.faults (archive_disk_of archive.old)) (D.says.faults (archive_disk_of archive.new))) }
     {
         reply_print(alloc, &self.replica, archive, request)
     }
@@ -134,9 +136,11 @@ impl ReplicaParty {
         ensures left { self.new.left ≡ self.old.left }
         ensures fetched { IsFetched D.says journal.old journal.new }
         ensures never_falls { D.says.faults (disk_of journal.old) ≤ D.says.faults (disk_of journal.new) }
-        ensures only { IfOk result (λ answered. answered.lost ≡ false → D.says.faults (disk_of journal.new) ≡ D.says.faults (disk_of journal.old)) }
+        ensures only { IfOk result (λ answered. answered.lost ≡ false →
+            D.says.faults (disk_of journal.new) ≡ D.says.faults (disk_of journal.old)) }
         ensures no_memory { OnErr result (D.says.faults (disk_of journal.new) ≡ D.says.faults (disk_of journal.old)) }
-        ensures cause { IfOk result (λ answered. answered.lost ≡ true → HasRisen (D.says.faults (disk_of journal.old)) (D.says.faults (disk_of journal.new))) }
+        ensures cause { IfOk result (λ answered. answered.lost ≡ true →
+            HasRisen (D.says.faults (disk_of journal.old)) (D.says.faults (disk_of journal.new))) }
     {
         answer_by_journal(alloc, &mut self.replica, journal, request)
     }
@@ -164,7 +168,8 @@ impl ReplicaParty {
         ensures never_falls_contents { D.says.faults (archive_disk_of depot.old.archive) ≤ D.says.faults (archive_disk_of depot.new.archive) }
         ensures only { IfOk result (λ answered. answered.lost ≡ false → HaveStood D.says depot.old depot.new) }
         ensures no_memory { OnErr result (HaveStood D.says depot.old depot.new) }
-        ensures cause { IfOk result (λ answered. answered.lost ≡ true → HasRisen (D.says.faults (disk_of depot.old.journal)) (D.says.faults (disk_of depot.new.journal)) ⊎ HasRisen (D.says.faults (archive_disk_of depot.old.archive)) (D.says.faults (archive_disk_of depot.new.archive))) }
+        ensures cause { IfOk result (λ answered. answered.lost ≡ true →
+            HasRisen (D.says.faults (disk_of depot.old.journal)) (D.says.faults (disk_of depot.new.journal)) ⊎ HasRisen (D.says.faults (archive_disk_of depot.old.archive)) (D.says.faults (archive_disk_of depot.new.archive))) }
     {
         if self.left.is_empty() {
             return Err(AllocError);

@@ -72,9 +72,11 @@ fn pull_into<D: Disk>(
     ensures kept { OnErr result (replica.new ≡ replica.old) }
     ensures fetched { IsFetched D.says journal.old journal.new }
     ensures never_falls { D.says.faults (disk_of journal.old) ≤ D.says.faults (disk_of journal.new) }
-    ensures only { IfOk result (λ answered. answered.lost ≡ false → D.says.faults (disk_of journal.new) ≡ D.says.faults (disk_of journal.old)) }
+    ensures only { IfOk result (λ answered. answered.lost ≡ false →
+        D.says.faults (disk_of journal.new) ≡ D.says.faults (disk_of journal.old)) }
     ensures no_memory { OnErr result (D.says.faults (disk_of journal.new) ≡ D.says.faults (disk_of journal.old)) }
-    ensures cause { IfOk result (λ answered. answered.lost ≡ true → HasRisen (D.says.faults (disk_of journal.old)) (D.says.faults (disk_of journal.new))) }
+    ensures cause { IfOk result (λ answered. answered.lost ≡ true →
+        HasRisen (D.says.faults (disk_of journal.old)) (D.says.faults (disk_of journal.new))) }
 {
     let (generation, at) = replica.awaits();
     match fetch_texts(journal, generation, at, buffer) {
@@ -101,9 +103,11 @@ pub(crate) fn pull<D: Disk>(
     ensures kept { OnErr result (replica.new ≡ replica.old) }
     ensures fetched { IsFetched D.says journal.old journal.new }
     ensures never_falls { D.says.faults (disk_of journal.old) ≤ D.says.faults (disk_of journal.new) }
-    ensures only { IfOk result (λ answered. answered.lost ≡ false → D.says.faults (disk_of journal.new) ≡ D.says.faults (disk_of journal.old)) }
+    ensures only { IfOk result (λ answered. answered.lost ≡ false →
+        D.says.faults (disk_of journal.new) ≡ D.says.faults (disk_of journal.old)) }
     ensures no_memory { OnErr result (D.says.faults (disk_of journal.new) ≡ D.says.faults (disk_of journal.old)) }
-    ensures cause { IfOk result (λ answered. answered.lost ≡ true → HasRisen (D.says.faults (disk_of journal.old)) (D.says.faults (disk_of journal.new))) }
+    ensures cause { IfOk result (λ answered. answered.lost ≡ true →
+        HasRisen (D.says.faults (disk_of journal.old)) (D.says.faults (disk_of journal.new))) }
 {
     let of_fault = fault_reply(alloc, number)?;
     let room = Room::take(alloc)?;

@@ -56,9 +56,11 @@ pub(crate) fn reply_print<D: Disk>(
         IfOk result (λ answered. IsReply (λ been. been ≡ depot) D.says replica.now request.now answered.text answered.lost) }
     ensures read { IsRead D.says archive.old archive.new }
     ensures never_falls { D.says.faults (archive_disk_of archive.old) ≤ D.says.faults (archive_disk_of archive.new) }
-    ensures only { IfOk result (λ answered. answered.lost ≡ false → D.says.faults (archive_disk_of archive.new) ≡ D.says.faults (archive_disk_of archive.old)) }
+    ensures only { IfOk result (λ answered. answered.lost ≡ false →
+        D.says.faults (archive_disk_of archive.new) ≡ D.says.faults (archive_disk_of archive.old)) }
     ensures no_memory { OnErr result (D.says.faults (archive_disk_of archive.new) ≡ D.says.faults (archive_disk_of archive.old)) }
-    ensures cause { IfOk result (λ answered. answered.lost ≡ true → HasRisen (D.says.faults (archive_disk_of archive.old)) (D.says.faults (archive_disk_of archive.new))) }
+    ensures cause { IfOk result (λ answered. answered.lost ≡ true →
+        HasRisen (D.says.faults (archive_disk_of archive.old)) (D.says.faults (archive_disk_of archive.new))) }
 {
     let of_fault = fault_reply(alloc, request.number)?;
     match answer_print(alloc, replica, archive, request) {
@@ -102,9 +104,11 @@ pub(crate) fn answer_by_journal<D: Disk>(
     ensures kept { OnErr result (replica.new ≡ replica.old) }
     ensures fetched { IsFetched D.says journal.old journal.new }
     ensures never_falls { D.says.faults (disk_of journal.old) ≤ D.says.faults (disk_of journal.new) }
-    ensures only { IfOk result (λ answered. answered.lost ≡ false → D.says.faults (disk_of journal.new) ≡ D.says.faults (disk_of journal.old)) }
+    ensures only { IfOk result (λ answered. answered.lost ≡ false →
+        D.says.faults (disk_of journal.new) ≡ D.says.faults (disk_of journal.old)) }
     ensures no_memory { OnErr result (D.says.faults (disk_of journal.new) ≡ D.says.faults (disk_of journal.old)) }
-    ensures cause { IfOk result (λ answered. answered.lost ≡ true → HasRisen (D.says.faults (disk_of journal.old)) (D.says.faults (disk_of journal.new))) }
+    ensures cause { IfOk result (λ answered. answered.lost ≡ true →
+        HasRisen (D.says.faults (disk_of journal.old)) (D.says.faults (disk_of journal.new))) }
 {
     if is_pull(request) {
         pull(alloc, replica, journal, request.number)
@@ -126,7 +130,8 @@ pub(crate) fn answer_request<D: Disk>(
     ensures depot { IsUnmoved D.says depot.old depot.new }
     ensures only { IfOk result (λ answered. answered.lost ≡ false → HaveStood D.says depot.old depot.new) }
     ensures no_memory { OnErr result (HaveStood D.says depot.old depot.new) }
-    ensures cause { IfOk result (λ answered. answered.lost ≡ true → HasRisen (D.says.faults (disk_of depot.old.journal)) (D.says.faults (disk_of depot.new.journal)) ⊎ HasRisen (D.says.faults (archive_disk_of depot.old.archive)) (D.says.faults (archive_disk_of depot.new.archive))) }
+    ensures cause { IfOk result (λ answered. answered.lost ≡ true →
+        HasRisen (D.says.faults (disk_of depot.old.journal)) (D.says.faults (disk_of depot.new.journal)) ⊎ HasRisen (D.says.faults (archive_disk_of depot.old.archive)) (D.says.faults (archive_disk_of depot.new.archive))) }
 {
     if is_print(request) {
         reply_print(alloc, replica, &mut depot.archive, request)

@@ -110,7 +110,8 @@ fn as_of_moment(
     path: &DepotPath,
     latest: i64,
 ) -> Result<u32, AllocError>
-    ensures { IfOk result (λ rev. (d : List Deed) → IsSound d → HasRows (rows_of tables.now) d table_ids.Rev → HasRows (rows_of tables.now) d table_ids.Change →
+    ensures { IfOk result (λ rev. (d : List Deed) → IsSound d → HasRows (rows_of tables.now) d table_ids.Rev →
+        HasRows (rows_of tables.now) d table_ids.Change →
         rev ≡ last_passing (λ r. int_le (pos r.landing.moment) latest) 1 (revisions d path.now)) }
 {
     let head = last_within(alloc, tables, path, None)?;
@@ -123,7 +124,8 @@ fn as_of_moment(
 
 /// The revision of a file that a label has, or else a client, 0 where it has none.
 fn named(alloc: Global, tables: &Tables, name: &Name, path: &DepotPath) -> Result<u32, AllocError>
-    ensures { IfOk result (λ rev. (d : List Deed) → HaveRows (rows_of tables.now) d (end_tables (RevSpec.Named name.now)) →
+    ensures { IfOk result (λ rev. (d : List Deed) →
+        HaveRows (rows_of tables.now) d (end_tables (RevSpec.Named name.now)) →
         rev ≡ (if label_saved d name.now then labelled d name.now path.now else have d name.now path.now)) }
 {
     let labelled = is_label(alloc, tables, name)?;
@@ -144,7 +146,8 @@ fn chosen_by(
     path: &DepotPath,
     end: &RevSpec,
 ) -> Result<Chosen, AllocError>
-    ensures { IfOk result (λ chosen. (d : List Deed) → IsSound d → HaveRows (rows_of tables.now) d (end_tables end.now) →
+    ensures { IfOk result (λ chosen. (d : List Deed) → IsSound d →
+        HaveRows (rows_of tables.now) d (end_tables end.now) →
         choice_of chosen ≡ model.chosen_by d caller.now path.now end.now) }
 {
     match end {
@@ -190,7 +193,8 @@ pub fn chosen_of(
     path: &DepotPath,
     wanted: &Wanted,
 ) -> Result<Chosen, AllocError>
-    ensures { IfOk result (λ chosen. (d : List Deed) → IsSound d → HaveRows (rows_of tables.now) d (wanted_tables wanted.now) →
+    ensures { IfOk result (λ chosen. (d : List Deed) → IsSound d →
+        HaveRows (rows_of tables.now) d (wanted_tables wanted.now) →
         choice_of chosen ≡ model.chosen d caller.now path.now wanted.now) }
 {
     match wanted {
@@ -216,7 +220,8 @@ pub fn is_live_choice(
     path: &DepotPath,
     chosen: Chosen,
 ) -> Result<bool, AllocError>
-    ensures { IfOk result (λ live. (d : List Deed) → HasRows (rows_of tables.now) d table_ids.Rev → live ≡ model.is_live_choice d path.now (choice_of chosen)) }
+    ensures { IfOk result (λ live. (d : List Deed) → HasRows (rows_of tables.now) d table_ids.Rev →
+        live ≡ model.is_live_choice d path.now (choice_of chosen)) }
 {
     match chosen {
         Chosen::PassedOver => Ok(false),

@@ -39,7 +39,8 @@ fn maker_of(
     path: &DepotPath,
     rev: u32,
 ) -> Result<Option<u32>, AllocError>
-    ensures { IfOk result (λ change. (d : List Deed) → HasRows (rows_of tables.now) d table_ids.Rev → change ≡ change_by (revision d path.now rev)) }
+    ensures { IfOk result (λ change. (d : List Deed) → HasRows (rows_of tables.now) d table_ids.Rev →
+        change ≡ change_by (revision d path.now rev)) }
 {
     let row = revision_of(alloc, tables, path, rev)?;
     Ok(change_in(row))
@@ -62,7 +63,8 @@ fn moment_of(
     path: &DepotPath,
     rev: u32,
 ) -> Result<Option<u64>, AllocError>
-    ensures { IfOk result (λ moment. (d : List Deed) → IsSound d → HasRows (rows_of tables.now) d table_ids.Rev → HasRows (rows_of tables.now) d table_ids.Change →
+    ensures { IfOk result (λ moment. (d : List Deed) → IsSound d → HasRows (rows_of tables.now) d table_ids.Rev →
+        HasRows (rows_of tables.now) d table_ids.Change →
         moment ≡ moment_by (revision d path.now rev)) }
 {
     // the bytes of a path are one
@@ -126,7 +128,8 @@ fn is_from(
     head: u32,
     rev: u32,
 ) -> Result<bool, AllocError>
-    ensures { IfOk result (λ from. (d : List Deed) → IsSound d → HasRows (rows_of tables.now) d table_ids.Rev → HasRows (rows_of tables.now) d table_ids.Change →
+    ensures { IfOk result (λ from. (d : List Deed) → IsSound d → HasRows (rows_of tables.now) d table_ids.Rev →
+        HasRows (rows_of tables.now) d table_ids.Change →
         head ≡ head_in d path.now → from ≡ model.is_from d path.now end.now rev) }
 {
     match end {
@@ -157,7 +160,8 @@ fn is_made_by(
     only: u32,
     rev: u32,
 ) -> Result<bool, AllocError>
-    ensures { IfOk result (λ made. (d : List Deed) → HasRows (rows_of tables.now) d table_ids.Rev → made ≡ option_map_or (λ r. r.landing.change == only) (revision d path.now rev) false) }
+    ensures { IfOk result (λ made. (d : List Deed) → HasRows (rows_of tables.now) d table_ids.Rev →
+        made ≡ option_map_or (λ r. r.landing.change == only) (revision d path.now rev) false) }
 {
     let change = maker_of(alloc, tables, path, rev)?;
     let made = is_change(change, only);
@@ -173,7 +177,8 @@ fn is_begun(
     head: u32,
     rev: u32,
 ) -> Result<bool, AllocError>
-    ensures { IfOk result (λ begun. (d : List Deed) → IsSound d → HasRows (rows_of tables.now) d table_ids.Rev → HasRows (rows_of tables.now) d table_ids.Change →
+    ensures { IfOk result (λ begun. (d : List Deed) → IsSound d → HasRows (rows_of tables.now) d table_ids.Rev →
+        HasRows (rows_of tables.now) d table_ids.Change →
         head ≡ head_in d path.now → begun ≡ model.is_begun d path.now wanted.now rev) }
 {
     match wanted {
@@ -209,7 +214,8 @@ fn is_asked(
     head: u32,
     rev: u32,
 ) -> Result<bool, AllocError>
-    ensures { IfOk result (λ asked. (d : List Deed) → IsSound d → HasRows (rows_of tables.now) d table_ids.Rev → HasRows (rows_of tables.now) d table_ids.Change →
+    ensures { IfOk result (λ asked. (d : List Deed) → IsSound d → HasRows (rows_of tables.now) d table_ids.Rev →
+        HasRows (rows_of tables.now) d table_ids.Change →
         head ≡ head_in d path.now → asked ≡ asked_test d path.now wanted.now (choice_of chosen) rev) }
 {
     if !is_up_to(rev, chosen) {
@@ -230,7 +236,8 @@ fn add_asked(
     numbers: &mut Vec<u32>,
     rev: u32,
 ) -> Result<(), AllocError>
-    ensures { OnOk result ((d : List Deed) → IsSound d → HasRows (rows_of tables.now) d table_ids.Rev → HasRows (rows_of tables.now) d table_ids.Change →
+    ensures { OnOk result ((d : List Deed) → IsSound d → HasRows (rows_of tables.now) d table_ids.Rev →
+        HasRows (rows_of tables.now) d table_ids.Change →
         head ≡ head_in d path.now → numbers.new.items ≡ numbers.old.items ++ (if asked_test d path.now wanted.now (choice_of chosen) rev then rev ∷ [] else [])) }
 {
     let asked = is_asked(alloc, tables, path, wanted, chosen, head, rev)?;
@@ -249,8 +256,10 @@ fn asked_of(
     chosen: Chosen,
     head: u32,
 ) -> Result<Vec<u32>, AllocError>
-    ensures { IfOk result (λ numbers. (d : List Deed) → IsSound d → HasRows (rows_of tables.now) d table_ids.Rev → HasRows (rows_of tables.now) d table_ids.Change →
-        head ≡ head_in d path.now → numbers.items ≡ filter (asked_test d path.now wanted.now (choice_of chosen)) (range_with_len 1 head)) }
+    ensures { IfOk result (λ numbers. (d : List Deed) → IsSound d → HasRows (rows_of tables.now) d table_ids.Rev →
+        HasRows (rows_of tables.now) d table_ids.Change →
+        head ≡ head_in d path.now →
+        numbers.items ≡ filter (asked_test d path.now wanted.now (choice_of chosen)) (range_with_len 1 head)) }
 {
     let mut numbers = Vec::new(alloc);
     let mut rev = 0;
@@ -272,8 +281,10 @@ pub fn in_range(
     path: &DepotPath,
     wanted: &Wanted,
 ) -> Result<Vec<u32>, AllocError>
-    ensures { IfOk result (λ numbers. (d : List Deed) → IsSound d → HasRows (rows_of tables.now) d table_ids.Rev → HasRows (rows_of tables.now) d table_ids.Change →
-        HaveRows (rows_of tables.now) d (wanted_tables wanted.now) → numbers.items ≡ model.in_range d caller.now path.now wanted.now) }
+    ensures { IfOk result (λ numbers. (d : List Deed) → IsSound d → HasRows (rows_of tables.now) d table_ids.Rev →
+        HasRows (rows_of tables.now) d table_ids.Change →
+        HaveRows (rows_of tables.now) d (wanted_tables wanted.now) →
+        numbers.items ≡ model.in_range d caller.now path.now wanted.now) }
 {
     let chosen = chosen_of(alloc, tables, caller, path, wanted)?;
     let head = head_of(alloc, tables, path)?;

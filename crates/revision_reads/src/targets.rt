@@ -33,7 +33,8 @@ fn find_live<'a>(
     tables: &Tables,
     files: &'a [DepotPath],
 ) -> Result<Option<&'a DepotPath>, AllocError>
-    ensures { IfOk result (λ found. (d : List Deed) → IsSound d → HasRows (rows_of tables.now) d table_ids.Rev → option_copied found ≡ find (live_head d) files.now) }
+    ensures { IfOk result (λ found. (d : List Deed) → IsSound d → HasRows (rows_of tables.now) d table_ids.Rev →
+        option_copied found ≡ find (live_head d) files.now) }
 {
     for path in files {
         let live = is_live_head(alloc, tables, path)?;
@@ -62,7 +63,8 @@ pub fn first_live(
     tables: &Tables,
     files: &[DepotPath],
 ) -> Result<Option<DepotPath>, AllocError>
-    ensures { IfOk result (λ file. (d : List Deed) → IsSound d → HasRows (rows_of tables.now) d table_ids.Rev → file ≡ first_live_in d files.now) }
+    ensures { IfOk result (λ file. (d : List Deed) → IsSound d → HasRows (rows_of tables.now) d table_ids.Rev →
+        file ≡ first_live_in d files.now) }
 {
     match files {
         [] => Ok(None),
@@ -82,7 +84,8 @@ pub fn file_at(
     view: &View,
     path: &ClientPath,
 ) -> Result<Option<DepotPath>, AllocError>
-    ensures { IfOk result (λ file. (d : List Deed) → IsSound d → HasRows (rows_of tables.now) d table_ids.Rev → file ≡ first_live_in d (files_at view.now path.now)) }
+    ensures { IfOk result (λ file. (d : List Deed) → IsSound d → HasRows (rows_of tables.now) d table_ids.Rev →
+        file ≡ first_live_in d (files_at view.now path.now)) }
 {
     let files = view.to_depot(alloc, path)?;
     let file = first_live(alloc, tables, files.as_slice())?;
@@ -99,7 +102,8 @@ pub fn shown_in_view(
     path: &DepotPath,
     wanted: &Wanted,
 ) -> Result<Option<ClientPath>, AllocError>
-    ensures { IfOk result (λ place. (d : List Deed) → IsSound d → HasRows (rows_of tables.now) d table_ids.Rev → HaveRows (rows_of tables.now) d (wanted_tables wanted.now) →
+    ensures { IfOk result (λ place. (d : List Deed) → IsSound d → HasRows (rows_of tables.now) d table_ids.Rev →
+        HaveRows (rows_of tables.now) d (wanted_tables wanted.now) →
         view.now ≡ view_in d caller.now.client → place ≡ shown d caller.now wanted.now path.now) }
 {
     let place = shown_by(alloc, tables, caller, view, path, wanted)?;
@@ -116,8 +120,10 @@ fn source_text(
     from: &FileArgument,
     path: &DepotPath,
 ) -> Result<DepotPath, AllocError>
-    ensures { IfOk result (λ text. (d : List Deed) → IsSound d → HasRows (rows_of tables.now) d table_ids.Rev → HaveRows (rows_of tables.now) d (wanted_tables from.now.spec.wanted) →
-        view.now ≡ view_in d caller.now.client → text ≡ unwrap_or (model.source_text d caller.now from.now path.now) path.now) }
+    ensures { IfOk result (λ text. (d : List Deed) → IsSound d → HasRows (rows_of tables.now) d table_ids.Rev →
+        HaveRows (rows_of tables.now) d (wanted_tables from.now.spec.wanted) →
+        view.now ≡ view_in d caller.now.client →
+        text ≡ unwrap_or (model.source_text d caller.now from.now path.now) path.now) }
 {
     if !in_client_syntax(&caller.client, &from.spec.pattern) {
         let text = path.clone()?;
@@ -158,7 +164,8 @@ pub fn target_text(
     to: &PatternArgument,
     path: &DepotPath,
 ) -> Result<Text, AllocError>
-    ensures { IfOk result (λ text. (d : List Deed) → IsSound d → HasRows (rows_of tables.now) d table_ids.Rev → HaveRows (rows_of tables.now) d (wanted_tables from.now.spec.wanted) →
+    ensures { IfOk result (λ text. (d : List Deed) → IsSound d → HasRows (rows_of tables.now) d table_ids.Rev →
+        HaveRows (rows_of tables.now) d (wanted_tables from.now.spec.wanted) →
         view.now ≡ view_in d caller.now.client → text ≡ model.target_text d caller.now from.now to.now path.now) }
 {
     let source = source_text(alloc, tables, caller, view, from, path)?;
@@ -198,7 +205,8 @@ pub fn target_at(
     to: &PatternArgument,
     text: &Text,
 ) -> Result<Option<DepotPath>, AllocError>
-    ensures { IfOk result (λ file. (d : List Deed) → IsSound d → HasRows (rows_of tables.now) d table_ids.Rev → view.now ≡ view_in d caller.now.client →
+    ensures { IfOk result (λ file. (d : List Deed) → IsSound d → HasRows (rows_of tables.now) d table_ids.Rev →
+        view.now ≡ view_in d caller.now.client →
         file ≡ model.target_at d caller.now to.now text.now) }
 {
     let own = Text::from_bytes(alloc, text.as_bytes())?;

@@ -48,7 +48,8 @@ fn line_row(alloc: Global, number: u32, line: &[u8]) -> Result<Option<Record>, A
 impl Overlay {
     /// The protections table has a line with this number.
     fn put_line(&mut self, alloc: Global, number: u32, line: &Text) -> Result<(), AllocError>
-        ensures { OnOk result ((rows : Rows) → Becomes rows (put_at (Key.Protect number) (protect_record number (words_of line.now))) self.old.touched self.new.touched) }
+        ensures { OnOk result ((rows : Rows) →
+            Becomes rows (put_at (Key.Protect number) (protect_record number (words_of line.now))) self.old.touched self.new.touched) }
     {
         let row = line_row(alloc, number, line.as_bytes())?;
         self.put(Key::Protect { line: number }, row)?;
@@ -58,7 +59,8 @@ impl Overlay {
     /// The protections table has these lines, the first with the number 1. More lines than there are
     /// numbers find no memory.
     fn put_lines(&mut self, alloc: Global, lines: &[Text]) -> Result<(), AllocError>
-        ensures { OnOk result ((rows : Rows) → Becomes rows (with_lines 1 lines.now) self.old.touched self.new.touched) }
+        ensures { OnOk result ((rows : Rows) →
+            Becomes rows (with_lines 1 lines.now) self.old.touched self.new.touched) }
     {
         let mut number: u32 = 0;
         for line in lines {

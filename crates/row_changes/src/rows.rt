@@ -20,7 +20,8 @@ use std::alloc::{AllocError, Global};
 /// The path and the number of a source, no bytes and 0 where there is none. The one error is want of
 /// memory.
 fn source_fields(alloc: Global, source: Option<&Source>) -> Result<(Text, u32), AllocError>
-    ensures { IfOk result (λ fields. (fields.0 ≡ source_path (option_copied source.entry)) × (fields.1 ≡ source_rev (option_copied source.entry))) }
+    ensures { IfOk result (λ fields. (fields.0 ≡ source_path (option_copied source.entry)) ×
+        (fields.1 ≡ source_rev (option_copied source.entry))) }
 {
     match source {
         Some(source) => Ok((source.path.print(alloc)?, source.rev)),

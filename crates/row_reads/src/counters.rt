@@ -56,7 +56,8 @@ fn rows_have_counters(tables: &Tables)
 /// The counters that have values, in the order of their names (Command-Line Reference, "p4 counters"), from the table
 /// of counters alone.
 pub fn counters_of(alloc: Global, tables: &Tables) -> Result<Sequence<CounterRecord>, AllocError>
-    ensures { IfOk result (λ counters. (d : List Deed) → HasRows (rows_of tables.now) d table_ids.Counter → counters ≡ counters_of_depot d) }
+    ensures { IfOk result (λ counters. (d : List Deed) → HasRows (rows_of tables.now) d table_ids.Counter →
+        counters ≡ counters_of_depot d) }
 {
     rows_have_counters(tables);
     let counters = counters_of_rows(alloc, tables)?;

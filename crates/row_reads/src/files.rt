@@ -86,7 +86,8 @@ pub fn have_of(
     client: &Name,
     path: &DepotPath,
 ) -> Result<u32, AllocError>
-    ensures { IfOk result (λ rev. (d : List Deed) → HasRows (rows_of tables.now) d table_ids.Have → rev ≡ have d client.now path.now) }
+    ensures { IfOk result (λ rev. (d : List Deed) → HasRows (rows_of tables.now) d table_ids.Have →
+        rev ≡ have d client.now path.now) }
 {
     let key = have_key(alloc, client, path)?;
     let version = tables.version(TableId::Have);
@@ -103,7 +104,8 @@ pub fn label_of(
     label: &Name,
     path: &DepotPath,
 ) -> Result<u32, AllocError>
-    ensures { IfOk result (λ rev. (d : List Deed) → HasRows (rows_of tables.now) d table_ids.Label → rev ≡ labelled d label.now path.now) }
+    ensures { IfOk result (λ rev. (d : List Deed) → HasRows (rows_of tables.now) d table_ids.Label →
+        rev ≡ labelled d label.now path.now) }
 {
     let key = label_key(alloc, label, path)?;
     let version = tables.version(TableId::Label);
@@ -120,7 +122,8 @@ pub fn opened_of(
     client: &Name,
     path: &DepotPath,
 ) -> Result<Option<Record>, AllocError>
-    ensures { IfOk result (λ row. (d : List Deed) → HasRows (rows_of tables.now) d table_ids.Working → row ≡ option_map (working_record d) (opened d client.now path.now)) }
+    ensures { IfOk result (λ row. (d : List Deed) → HasRows (rows_of tables.now) d table_ids.Working →
+        row ≡ option_map (working_record d) (opened d client.now path.now)) }
 {
     let key = opened_key(alloc, client, path)?;
     let version = tables.version(TableId::Working);

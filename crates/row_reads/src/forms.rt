@@ -90,7 +90,8 @@ pub fn saved_form(
     kind: SpecKind,
     name: &[u8],
 ) -> Result<Option<Form>, AllocError>
-    ensures { IfOk result (λ found. (d : List Deed) → IsSound d → HasRows (rows_of tables.now) d table_ids.Domain → found ≡ spec d (kind_of kind) name.now) }
+    ensures { IfOk result (λ found. (d : List Deed) → IsSound d → HasRows (rows_of tables.now) d table_ids.Domain →
+        found ≡ spec d (kind_of kind) name.now) }
 {
     let key = form_key(alloc, kind_word(kind), name)?;
     let version = tables.version(TableId::Domain);
@@ -142,7 +143,8 @@ pub fn form_names(
     tables: &Tables,
     kind: SpecKind,
 ) -> Result<Sequence<Text>, AllocError>
-    ensures { IfOk result (λ names. (d : List Deed) → HasRows (rows_of tables.now) d table_ids.Domain → names ≡ keys_of (spec_name (kind_of kind)) d) }
+    ensures { IfOk result (λ names. (d : List Deed) → HasRows (rows_of tables.now) d table_ids.Domain →
+        names ≡ keys_of (spec_name (kind_of kind)) d) }
 {
     rows_name_forms(tables, kind);
     let range = KeyRange::Forms {
@@ -196,7 +198,8 @@ fn locks(form: Option<&Form>) -> bool
 
 /// Whether a label is locked, from the table of forms alone.
 pub fn is_locked_label(alloc: Global, tables: &Tables, name: &Name) -> Result<bool, AllocError>
-    ensures { IfOk result (λ locked. (d : List Deed) → IsSound d → HasRows (rows_of tables.now) d table_ids.Domain → locked ≡ is_locked d name.now) }
+    ensures { IfOk result (λ locked. (d : List Deed) → IsSound d → HasRows (rows_of tables.now) d table_ids.Domain →
+        locked ≡ is_locked d name.now) }
 {
     let form = saved_form(alloc, tables, SpecKind::Label, name.as_bytes())?;
     let locked = locks(form.as_ref());

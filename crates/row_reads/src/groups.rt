@@ -55,7 +55,8 @@ fn rows_list_users(tables: &Tables)
 /// The users of a group, each once, in the order of bytes (Command-Line Reference, "p4 group"), from the table of
 /// groups alone.
 pub fn users_of(alloc: Global, tables: &Tables, group: &Name) -> Result<Sequence<Text>, AllocError>
-    ensures { IfOk result (λ listed. (d : List Deed) → HasRows (rows_of tables.now) d table_ids.Group → listed ≡ by_name (users d group.now)) }
+    ensures { IfOk result (λ listed. (d : List Deed) → HasRows (rows_of tables.now) d table_ids.Group →
+        listed ≡ by_name (users d group.now)) }
 {
     rows_list_users(tables);
     let range = KeyRange::GroupUsers {

@@ -36,7 +36,8 @@ fn change_key(alloc: Global) -> Result<Key, AllocError>
 /// The greatest number in a pending or submitted change, 0 where there is none (Command-Line Reference, "p4 change"),
 /// from the table of counters alone. The one error is want of memory.
 pub fn top_change(alloc: Global, tables: &Tables) -> Result<u64, AllocError>
-    ensures { IfOk result (λ number. (d : List Deed) → HasRows (rows_of tables.now) d table_ids.Counter → number ≡ top d) }
+    ensures { IfOk result (λ number. (d : List Deed) → HasRows (rows_of tables.now) d table_ids.Counter →
+        number ≡ top d) }
 {
     let key = change_key(alloc)?;
     let version = tables.version(TableId::Counter);

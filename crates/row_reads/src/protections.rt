@@ -51,7 +51,8 @@ fn rows_keep_lines(tables: &Tables)
 /// The lines of the protections, each with one space between its words (Command-Line Reference, "p4 protect"), from the
 /// table of protections alone.
 pub fn protection_lines(alloc: Global, tables: &Tables) -> Result<Sequence<Text>, AllocError>
-    ensures { IfOk result (λ lines. (d : List Deed) → IsSound d → HasRows (rows_of tables.now) d table_ids.Protect → lines ≡ map kept_line (guard_lines d)) }
+    ensures { IfOk result (λ lines. (d : List Deed) → IsSound d → HasRows (rows_of tables.now) d table_ids.Protect →
+        lines ≡ map kept_line (guard_lines d)) }
 {
     rows_keep_lines(tables);
     let lines = line_texts(alloc, tables.version(TableId::Protect).rows())?;

@@ -24,7 +24,8 @@ pub(crate) fn form_key(alloc: Global, kind: &[u8], name: &[u8]) -> Result<Key, A
 
 /// Whether a client of the name is saved (Command-Line Reference, "p4 client"), from the table of forms alone.
 pub fn is_client(alloc: Global, tables: &Tables, name: &Name) -> Result<bool, AllocError>
-    ensures { IfOk result (λ found. (d : List Deed) → HasRows (rows_of tables.now) d table_ids.Domain → found ≡ client_saved d name.now) }
+    ensures { IfOk result (λ found. (d : List Deed) → HasRows (rows_of tables.now) d table_ids.Domain →
+        found ≡ client_saved d name.now) }
 {
     let key = form_key(alloc, b"client", name.as_bytes())?;
     let row = tables.version(TableId::Domain).get(&key);
@@ -34,7 +35,8 @@ pub fn is_client(alloc: Global, tables: &Tables, name: &Name) -> Result<bool, Al
 
 /// Whether a label of the name is saved (Command-Line Reference, "p4 label"), from the table of forms alone.
 pub fn is_label(alloc: Global, tables: &Tables, name: &Name) -> Result<bool, AllocError>
-    ensures { IfOk result (λ found. (d : List Deed) → HasRows (rows_of tables.now) d table_ids.Domain → found ≡ label_saved d name.now) }
+    ensures { IfOk result (λ found. (d : List Deed) → HasRows (rows_of tables.now) d table_ids.Domain →
+        found ≡ label_saved d name.now) }
 {
     let key = form_key(alloc, b"label", name.as_bytes())?;
     let row = tables.version(TableId::Domain).get(&key);

@@ -7,7 +7,8 @@ use depot_rows::paths::{Name, Pattern, Piece};
 
 /// The pieces after a byte, where they begin with it.
 fn after_byte(first: u8, pieces: &[Piece]) -> Option<&[Piece]>
-    ensures some { IfSome result (λ later. (name : List ℕ) → name_begins (first ∷ name) pieces.now ≡ name_begins name later.now) }
+    ensures some { IfSome result (λ later. (name : List ℕ) →
+        name_begins (first ∷ name) pieces.now ≡ name_begins name later.now) }
     ensures none { result ≡ None → (name : List ℕ) → name_begins (first ∷ name) pieces.now ≡ false }
 {
     match pieces {

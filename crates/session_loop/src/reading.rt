@@ -112,7 +112,8 @@ fn follow(
 ) -> Result<(), AllocError>
     requires { AreBehind script.old.lines items.old }
     ensures behind { OnOk result (AreBehind script.new.lines items.new) }
-    ensures goes { OnOk result ((rest : List Entry) → all_asked script.old items.old (entry ∷ rest) ≡ all_asked script.new items.new rest) }
+    ensures goes { OnOk result ((rest : List Entry) →
+        all_asked script.old items.old (entry ∷ rest) ≡ all_asked script.new items.new rest) }
     ensures few { OnOk result (length items.new ≤ length items.old + 1) }
 {
     match entry {

@@ -59,7 +59,10 @@ pub trait Taker {
         ensures never_falls { faults self.old ≤ faults self.new }
         ensures never_falls_contents { content_faults self.old ≤ content_faults self.new }
         // Where the place isn't that of a fault, and where memory was wanting, nothing that was called failed.
-        ensures only { IfOk result (λ answer. answer.place.fault ≡ false → (faults self.new ≡ faults self.old) × (content_faults self.new ≡ content_faults self.old)) }
-        ensures no_memory { OnErr result ((faults self.new ≡ faults self.old) × (content_faults self.new ≡ content_faults self.old)) }
-        ensures cause { IfOk result (λ answer. answer.place.fault ≡ true → HasRisen (faults self.old) (faults self.new) ⊎ HasRisen (content_faults self.old) (content_faults self.new)) };
+        ensures only { IfOk result (λ answer. answer.place.fault ≡ false →
+            (faults self.new ≡ faults self.old) × (content_faults self.new ≡ content_faults self.old)) }
+        ensures no_memory { OnErr result ((faults self.new ≡ faults self.old) ×
+            (content_faults self.new ≡ content_faults self.old)) }
+        ensures cause { IfOk result (λ answer. answer.place.fault ≡ true →
+            HasRisen (faults self.old) (faults self.new) ⊎ HasRisen (content_faults self.old) (content_faults self.new)) };
 }

@@ -30,7 +30,8 @@ fn tables_with_room(
     core: &LockCore,
     order: &mut Vec<Place>,
 ) -> Result<Tables, AllocError>
-    ensures rows { IfOk result (λ after. (start : List Deed) (s : State) (request : AnyRequest) (outcome : AnyOutcome) → IsReady start s core.now party request outcome →
+    ensures rows { IfOk result (λ after. (start : List Deed) (s : State) (request : AnyRequest) (outcome : AnyOutcome) →
+        IsReady start s core.now party request outcome →
         rows_of after ≡ changed_by (rows_of core.now.tables) outcome.changes) }
     ensures room { OnOk result (vec_len order.new < vec_capacity order.new) }
     ensures same { order.new.items ≡ order.old.items }

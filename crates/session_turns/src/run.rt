@@ -98,9 +98,11 @@ pub fn run_sessions<D: Disk, K: Sink + Drop, C: Clock, G: Gate>(
     // Where there is no fault place, and no replica was answered that a disk failed, the counts of the two disks stand.
     // There are at most as many fault places as the counts of the two disks rose, and a replica was answered that a
     // disk failed only where one of them rose.
-    ensures stand { IfOk result (λ ran. ran.lost ≡ false → StandWithoutFaults (D.says.faults (disk_of depot.journal)) (D.says.faults (disk_of ran.depot.journal)) (D.says.faults (archive_disk_of depot.archive)) (D.says.faults (archive_disk_of ran.depot.archive)) [] ran.order.items) }
+    ensures stand { IfOk result (λ ran. ran.lost ≡ false →
+        StandWithoutFaults (D.says.faults (disk_of depot.journal)) (D.says.faults (disk_of ran.depot.journal)) (D.says.faults (archive_disk_of depot.archive)) (D.says.faults (archive_disk_of ran.depot.archive)) [] ran.order.items) }
     ensures faults { IfOk result (λ ran. AreCaused (D.says.faults (disk_of depot.journal)) (D.says.faults (disk_of ran.depot.journal)) (D.says.faults (archive_disk_of depot.archive)) (D.says.faults (archive_disk_of ran.depot.archive)) [] ran.order.items) }
-    ensures lost { IfOk result (λ ran. ran.lost ≡ true → OneHasRisen (D.says.faults (disk_of depot.journal)) (D.says.faults (disk_of ran.depot.journal)) (D.says.faults (archive_disk_of depot.archive)) (D.says.faults (archive_disk_of ran.depot.archive))) }
+    ensures lost { IfOk result (λ ran. ran.lost ≡ true →
+        OneHasRisen (D.says.faults (disk_of depot.journal)) (D.says.faults (disk_of ran.depot.journal)) (D.says.faults (archive_disk_of depot.archive)) (D.says.faults (archive_disk_of ran.depot.archive))) }
 {
     let Beginning {
         core,

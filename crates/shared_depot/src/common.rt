@@ -62,7 +62,8 @@ impl<D: Disk, N: Serving> CommonDepot<D, N> {
         requires { IsShown N.rows gathered }
         ensures same { self.new ≡ self.old }
         ensures confirmed { IfSome result (IsConfirmed N.rows self.old gathered.entry) }
-        ensures set { IfSome result (λ confirmed. (request : Request) → Covers gathered.entry request → HasSet (rows_after N.rows self.old) (rows_of confirmed.tables) request) }
+        ensures set { IfSome result (λ confirmed. (request : Request) → Covers gathered.entry request →
+            HasSet (rows_after N.rows self.old) (rows_of confirmed.tables) request) }
         ensures always { gathered.entry.peeks.items ≡ [] → IsSome result }
     {
         gathered.confirm(words, &mut self.order)

@@ -26,7 +26,8 @@ pub fn depots_are_followed<D: Disk, N: Serving>()
     ensures stands { (order : List AnyTaken) (texts : List (List ℕ)) (archive : AnyArchive D) (rules : List FilterRule) (moments : List Moment) (r : AnyReplica) →
         (told : TellsJournal D.says N.end N.images N.begins N.masters order texts) →
         HasAllStored D.says N.end N.images N.begins order archive → HasFollowed rules texts r moments →
-        (d : List Deed) × IsNth told.past told.start (map placed_of order) r.changes d × Stand (rows_of r.tables) (cut rules d) }
+        (d : List Deed) × IsNth told.past told.start (map placed_of order) r.changes d ×
+        Stand (rows_of r.tables) (cut rules d) }
     // Where the changes before the run fit, and the journal is below 2^63 bytes, it is no bad feed.
     ensures good { (order : List AnyTaken) (texts : List (List ℕ)) →
         (told : TellsJournal D.says N.end N.images N.begins N.masters order texts) → AllFit told.past.journal →

@@ -90,8 +90,10 @@ pub(crate) fn tell_over<'a, R: Wait, D: Disk, N: Serving>(
     requires number { IfSome asked.old (λ request. request.number ≡ number) }
     ensures reading { IfOk result (λ r. IsReadingOf N.begins pass.old pass.new asked.old asked.new outcome number r.0) }
     ensures reply { (request : AnyRequest) (order : List Taken) → request.number ≡ number →
-        IfOk result (λ r. IfTold (λ told. IfSome r.1 (λ guard. order ≡ mutex_guard_value guard) → IsToldAfter N.end N.images N.begins order request outcome told) r.0) }
-    ensures list { IfOk result (λ r. IfTold (λ told. (end used : ℕ) → IsEndKnown end used archive.entry → IsEndKnown end used r.1) r.0) }
+        IfOk result (λ r. IfTold (λ told. IfSome r.1 (λ guard. order ≡ mutex_guard_value guard) →
+        IsToldAfter N.end N.images N.begins order request outcome told) r.0) }
+    ensures list { IfOk result (λ r. IfTold (λ told. (end used : ℕ) → IsEndKnown end used archive.entry →
+        IsEndKnown end used r.1) r.0) }
     ensures nothing { OnErr result ((pass.new ≡ pass.old) × (asked.new ≡ asked.old)) }
 {
     match archive {

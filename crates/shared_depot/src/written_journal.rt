@@ -89,7 +89,8 @@ impl<D: Disk, N: Serving> WrittenJournal<D, N> {
         changes: &[Change],
     ) -> Result<Tables, AllocError>
         requires fit { AllFitIn (rows_after N.rows self.now) changes.now }
-        ensures rows { IfOk result (λ after. (table : TableId) → rows_of after table ≡ changed_by (rows_after N.rows self.now) changes.now table) }
+        ensures rows { IfOk result (λ after. (table : TableId) →
+            rows_of after table ≡ changed_by (rows_after N.rows self.now) changes.now table) }
     {
         change_tables(alloc, &self.tables, changes)
     }

@@ -169,7 +169,8 @@ fn pending_row(
     row: &ChangeRecord,
     paths: &[DepotPath],
 ) -> Result<Row, AllocError>
-    ensures { IfOk result (λ told. (d : List Deed) → IsSound d → HasRows (rows_of tables.now) d table_ids.Domain → told ≡ pending_told d row.now paths.now) }
+    ensures { IfOk result (λ told. (d : List Deed) → IsSound d → HasRows (rows_of tables.now) d table_ids.Domain →
+        told ≡ pending_told d row.now paths.now) }
 {
     let mut fields = change_fields(alloc, row)?;
     push_files(alloc, tables, &mut fields, row.change, paths)?;
@@ -206,8 +207,10 @@ pub fn describe_shelved(
     asker: &Asker,
     change: u32,
 ) -> Result<Step, AllocError>
-    ensures { IfOk result (λ step. (d : List Deed) (caller : AnyCaller) → IsSound d → IsAsker d caller asker.now → HasRows (rows_of tables.now) d table_ids.Domain →
-        HasRows (rows_of tables.now) d table_ids.Change → IsMade (rows_of tables.now) d d (model.describe_shelved d caller change) step) }
+    ensures { IfOk result (λ step. (d : List Deed) (caller : AnyCaller) → IsSound d → IsAsker d caller asker.now →
+        HasRows (rows_of tables.now) d table_ids.Domain →
+        HasRows (rows_of tables.now) d table_ids.Change →
+        IsMade (rows_of tables.now) d d (model.describe_shelved d caller change) step) }
 {
     let files = listable_files(alloc, tables, asker, change)?;
     if files.is_empty() {

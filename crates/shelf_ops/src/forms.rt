@@ -171,7 +171,8 @@ pub(crate) fn shelf_form(
     opening: &Opening,
     block: Option<&Text>,
 ) -> Result<Form, AllocError>
-    ensures { IfOk result (λ form. (d : List Deed) (client path : List ℕ) → IsSound d → opened d client path ≡ Some (opening_of opening.now) →
+    ensures { IfOk result (λ form. (d : List Deed) (client path : List ℕ) → IsSound d →
+        opened d client path ≡ Some (opening_of opening.now) →
         form ≡ model.kept_form caller.now (opening_of opening.now) (option_copied block.entry)) }
 {
     // the bytes of names are those of names

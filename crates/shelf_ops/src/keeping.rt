@@ -113,7 +113,8 @@ pub(crate) fn kept_form(
     change: u32,
     path: &DepotPath,
 ) -> Result<Option<Form>, AllocError>
-    ensures { IfOk result (λ form. (d : List Deed) → IsSound d → HasRows (rows_of tables.now) d table_ids.Domain → form ≡ model.kept d change path.now) }
+    ensures { IfOk result (λ form. (d : List Deed) → IsSound d → HasRows (rows_of tables.now) d table_ids.Domain →
+        form ≡ model.kept d change path.now) }
 {
     let name = shelf_name(alloc, change, path)?;
     let form = saved_form(alloc, tables, SpecKind::Shelf, name.as_bytes())?;
@@ -138,7 +139,8 @@ fn push_kept(
     change: u32,
     path: &DepotPath,
 ) -> Result<(), AllocError>
-    ensures { OnOk result ((d : List Deed) → IsSound d → HasRows (rows_of tables.now) d table_ids.Domain → files.new ≡ files.old ++ kept_file d change path.now) }
+    ensures { OnOk result ((d : List Deed) → IsSound d → HasRows (rows_of tables.now) d table_ids.Domain →
+        files.new ≡ files.old ++ kept_file d change path.now) }
 {
     let form = kept_form(alloc, tables, change, path)?;
     let kept = form.is_some();
@@ -156,7 +158,8 @@ fn kept_among(
     change: u32,
     paths: &[DepotPath],
 ) -> Result<Sequence<DepotPath>, AllocError>
-    ensures { IfOk result (λ files. (d : List Deed) → IsSound d → HasRows (rows_of tables.now) d table_ids.Domain → files ≡ flat_map (kept_file d change) paths.now) }
+    ensures { IfOk result (λ files. (d : List Deed) → IsSound d → HasRows (rows_of tables.now) d table_ids.Domain →
+        files ≡ flat_map (kept_file d change) paths.now) }
 {
     let mut files = Sequence::new(alloc);
     let mut rest = paths;
@@ -185,7 +188,8 @@ pub(crate) fn kept_files(
     tables: &Tables,
     change: u32,
 ) -> Result<Sequence<DepotPath>, AllocError>
-    ensures { IfOk result (λ files. (d : List Deed) → IsSound d → HasRows (rows_of tables.now) d table_ids.Domain → files ≡ model.kept_paths d change) }
+    ensures { IfOk result (λ files. (d : List Deed) → IsSound d → HasRows (rows_of tables.now) d table_ids.Domain →
+        files ≡ model.kept_paths d change) }
 {
     rows_tell_kept(tables);
     let start = beginning_of(alloc, change)?;
@@ -234,7 +238,8 @@ pub(crate) fn listable_files(
     asker: &Asker,
     change: u32,
 ) -> Result<Sequence<DepotPath>, AllocError>
-    ensures { IfOk result (λ files. (d : List Deed) (caller : AnyCaller) → IsSound d → IsAsker d caller asker.now → HasRows (rows_of tables.now) d table_ids.Domain →
+    ensures { IfOk result (λ files. (d : List Deed) (caller : AnyCaller) → IsSound d → IsAsker d caller asker.now →
+        HasRows (rows_of tables.now) d table_ids.Domain →
         files ≡ listable d caller change) }
 {
     let kept = kept_files(alloc, tables, change)?;
@@ -249,7 +254,8 @@ pub(crate) fn shelf_refusal(
     asker: &Asker,
     change: u32,
 ) -> Result<Option<Row>, AllocError>
-    ensures { IfOk result (λ row. (d : List Deed) (caller : AnyCaller) → IsSound d → IsAsker d caller asker.now → HasRows (rows_of tables.now) d table_ids.Domain →
+    ensures { IfOk result (λ row. (d : List Deed) (caller : AnyCaller) → IsSound d → IsAsker d caller asker.now →
+        HasRows (rows_of tables.now) d table_ids.Domain →
         row ≡ option_map refusal_row (refusal_of_shelf d caller change)) }
 {
     let files = listable_files(alloc, tables, asker, change)?;

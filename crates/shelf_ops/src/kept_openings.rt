@@ -76,7 +76,8 @@ fn source_at(path: Option<DepotPath>, rev: u32) -> Option<Source>
 
 /// The revision whose content a submit takes, where the form tells one.
 fn kept_source(alloc: Global, form: &Form) -> Result<Option<Source>, AllocError>
-    ensures { IfOk result (λ source. number_of (value_of form.now (codes "FromRev")) ≤ 4294967295 → option_map source_of_deed source ≡ model.kept_source form.now) }
+    ensures { IfOk result (λ source. number_of (value_of form.now (codes "FromRev")) ≤ 4294967295 →
+        option_map source_of_deed source ≡ model.kept_source form.now) }
 {
     let from = form_value(form, "From");
     let digits = form_value(form, "FromRev");

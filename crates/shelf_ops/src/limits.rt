@@ -50,7 +50,8 @@ fn are_large(deeds: &[Deed]) -> bool
 /// The step, or where it saves more than 10,000 forms or more than 16,777,216 bytes of blocks, its refusal. The one
 /// error is want of memory.
 pub(crate) fn within_forms(alloc: Global, step: Step) -> Result<Step, AllocError>
-    ensures { IfOk result (λ made. (all : AllRows) (d e : List ModelDeed) (model : ModelStep) → IsMade all d e model step → IsMade all d e (within_forms_in model) made) }
+    ensures { IfOk result (λ made. (all : AllRows) (d e : List ModelDeed) (model : ModelStep) →
+        IsMade all d e model step → IsMade all d e (within_forms_in model) made) }
 {
     let many = step.deeds.as_slice().len() > FORMS;
     if many {

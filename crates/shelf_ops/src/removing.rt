@@ -56,7 +56,8 @@ fn removed_row(alloc: Global, path: &DepotPath) -> Result<Row, AllocError>
 
 /// The step by which a file is kept in a change no more.
 fn remove(alloc: Global, change: u32, path: &DepotPath) -> Result<Step, AllocError>
-    ensures { IfOk result (λ step. (all : AllRows) (d e : List ModelDeed) → IsMade all d e (removal change path.now) step) }
+    ensures { IfOk result (λ step. (all : AllRows) (d e : List ModelDeed) →
+        IsMade all d e (removal change path.now) step) }
 {
     let row = removed_row(alloc, path)?;
     let name = shelf_name(alloc, change, path)?;
@@ -103,8 +104,10 @@ pub fn shelve_delete(
     change: u32,
     arguments: &[FileArgument],
 ) -> Result<Step, AllocError>
-    ensures { IfOk result (λ step. (d : List ModelDeed) → IsSound d → IsAsker d caller.now asker.now → HasRows (rows_of tables.now) d table_ids.Domain →
-        HasRows (rows_of tables.now) d table_ids.Change → IsMade (rows_of tables.now) d d (model.shelve_delete d caller.now change arguments.now) step) }
+    ensures { IfOk result (λ step. (d : List ModelDeed) → IsSound d → IsAsker d caller.now asker.now →
+        HasRows (rows_of tables.now) d table_ids.Domain →
+        HasRows (rows_of tables.now) d table_ids.Change →
+        IsMade (rows_of tables.now) d d (model.shelve_delete d caller.now change arguments.now) step) }
 {
     if let Some(row) = change_refusal(alloc, tables, caller, change)? {
         return Step::tells(alloc, row);

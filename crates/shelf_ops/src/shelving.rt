@@ -65,7 +65,8 @@ fn keep(
     opening: &Opening,
     block: Option<&Text>,
 ) -> Result<Step, AllocError>
-    ensures { IfOk result (λ step. (all : AllRows) (d e : List ModelDeed) (client path : List ℕ) → IsSound d → opened d client path ≡ Some (opening_of opening.now) →
+    ensures { IfOk result (λ step. (all : AllRows) (d e : List ModelDeed) (client path : List ℕ) → IsSound d →
+        opened d client path ≡ Some (opening_of opening.now) →
         IsMade all d e (keeping caller.now (opening_of opening.now) (option_copied block.entry)) step) }
 {
     let row = shelved_row(alloc, opening)?;
@@ -93,7 +94,8 @@ fn is_kept_in(
     change: u32,
     path: &DepotPath,
 ) -> Result<bool, AllocError>
-    ensures { IfOk result (λ kept_there. (d : List ModelDeed) → IsSound d → HasRows (rows_of tables.now) d table_ids.Domain →
+    ensures { IfOk result (λ kept_there. (d : List ModelDeed) → IsSound d →
+        HasRows (rows_of tables.now) d table_ids.Domain →
         kept_there ≡ is_some (kept d change path.now)) }
 {
     let form = kept_form(alloc, tables, change, path)?;
@@ -128,7 +130,8 @@ impl<'a> Shelving<'a> {
         tables: &Tables,
         opening: &Opening,
     ) -> Result<Step, AllocError>
-        ensures { IfOk result (λ step. (d e : List ModelDeed) (path : List ℕ) → OpenedReads self.now.request.now.caller self.now.asker.now (rows_of tables.now) d →
+        ensures { IfOk result (λ step. (d e : List ModelDeed) (path : List ℕ) →
+            OpenedReads self.now.request.now.caller self.now.asker.now (rows_of tables.now) d →
             opened d self.now.request.now.caller.client path ≡ Some (opening_of opening.now) →
             IsMade (rows_of tables.now) d e (model.shelve_opening d self.now.request.now self.now.replaces (opening_of opening.now)) step) }
     {
@@ -196,7 +199,8 @@ pub fn shelve(
     replaces: bool,
     arguments: &[FileArgument],
 ) -> Result<Step, AllocError>
-    ensures { IfOk result (λ step. (d : List ModelDeed) → list_all asks_head arguments.now ≡ true → IsSound d → IsAsker d request.now.caller asker.now →
+    ensures { IfOk result (λ step. (d : List ModelDeed) → list_all asks_head arguments.now ≡ true → IsSound d →
+        IsAsker d request.now.caller asker.now →
         HasRows (rows_of tables.now) d table_ids.Domain → HasRows (rows_of tables.now) d table_ids.Working →
         HasRows (rows_of tables.now) d table_ids.Change → HasRows (rows_of tables.now) d table_ids.Rev →
         IsMade (rows_of tables.now) d d (model.shelve d request.now change replaces arguments.now) step) }

@@ -115,7 +115,8 @@ fn open_kept(
     place: &ClientPath,
     block: Option<Text>,
 ) -> Result<Step, AllocError>
-    ensures { IfOk result (λ step. (all : AllRows) (d e : List ModelDeed) → IsMade all d e (opens_kept (opening_of_deed opening) (Some place.now) block) step) }
+    ensures { IfOk result (λ step. (all : AllRows) (d e : List ModelDeed) →
+        IsMade all d e (opens_kept (opening_of_deed opening) (Some place.now) block) step) }
 {
     // the bytes of a path are one
     let _bytes = opening.path.as_bytes();
@@ -132,7 +133,8 @@ impl<'a> Unshelving<'a> {
         opening: Opening,
         block: Option<Text>,
     ) -> Result<Step, AllocError>
-        ensures { IfOk result (λ step. (d e : List ModelDeed) → OpenedReads self.now.caller.now self.now.asker.now (rows_of tables.now) d →
+        ensures { IfOk result (λ step. (d e : List ModelDeed) →
+            OpenedReads self.now.caller.now self.now.asker.now (rows_of tables.now) d →
             IsMade (rows_of tables.now) d e (model.unshelve_opening d self.now.caller.now (opening_of_deed opening) block) step) }
     {
         let path = &opening.path;
@@ -199,7 +201,8 @@ pub fn unshelve(
     change: Option<u32>,
     arguments: &[FileArgument],
 ) -> Result<Step, AllocError>
-    ensures { IfOk result (λ step. (d : List ModelDeed) → list_all asks_head arguments.now ≡ true → IsSound d → IsAsker d caller.now asker.now →
+    ensures { IfOk result (λ step. (d : List ModelDeed) → list_all asks_head arguments.now ≡ true → IsSound d →
+        IsAsker d caller.now asker.now →
         HasRows (rows_of tables.now) d table_ids.Domain → HasRows (rows_of tables.now) d table_ids.Working →
         HasRows (rows_of tables.now) d table_ids.Change → HasRows (rows_of tables.now) d table_ids.Rev →
         IsMade (rows_of tables.now) d d (model.unshelve d caller.now shelved change arguments.now) step) }

@@ -6,7 +6,8 @@ ghost use Rattle.spec_form.specs.Texts.{before, behind, is_blank, text_lines, tr
 
 /// What stands before the first such byte of a text, and behind it.
 pub fn cut_at(text: &[u8], byte: u8) -> Option<(&[u8], &[u8])>
-    ensures found { IfSome result (λ parts. (is_among text.now byte ≡ true) × (parts.0.now ≡ before byte text.now) × (parts.1.now ≡ behind byte text.now)) }
+    ensures found { IfSome result (λ parts. (is_among text.now byte ≡ true) × (parts.0.now ≡ before byte text.now) ×
+        (parts.1.now ≡ behind byte text.now)) }
     ensures absent { IfNone result (is_among text.now byte ≡ false) }
 {
     for (i, b) in text.iter().enumerate() {

@@ -30,7 +30,8 @@ fn counter_name(alloc: Global) -> Result<Name, AllocError>
 
 /// `admin checkpoint`, from the table of counters alone.
 pub fn checkpoint(alloc: Global, tables: &Tables) -> Result<Step, AllocError>
-    ensures { IfOk result (λ step. (d : List ModelDeed) → HasRows (rows_of tables.now) d table_ids.Counter → IsMade (rows_of tables.now) d d (model.checkpoint d) step) }
+    ensures { IfOk result (λ step. (d : List ModelDeed) → HasRows (rows_of tables.now) d table_ids.Counter →
+        IsMade (rows_of tables.now) d d (model.checkpoint d) step) }
 {
     let name = counter_name(alloc)?;
     let generation = counter_value(alloc, tables, &name)?;

@@ -61,7 +61,8 @@ fn save(alloc: Global, input: &[u8], form: Form) -> Result<Step, AllocError>
 /// `client -i`: the form that the input spells is saved. It is refused first where it can't be read, then that its name
 /// is none, that its view has more than 200 lines, and the first bad line of its view.
 pub fn client_save(alloc: Global, input: &[u8]) -> Result<Step, AllocError>
-    ensures { IfOk result (λ step. (all : AllRows) (d : List Deed) → IsMade all d d (model.client_save input.now) step) }
+    ensures { IfOk result (λ step. (all : AllRows) (d : List Deed) →
+        IsMade all d d (model.client_save input.now) step) }
 {
     match Form::read(alloc, input, Shape::Client) {
         Ok(form) => save(alloc, input, form),

@@ -44,7 +44,8 @@ pub(crate) fn counter_value(alloc: Global, tables: &Tables, name: &Name) -> Resu
 
 /// `counter NAME`, from the table of counters alone.
 pub fn counter_show(alloc: Global, tables: &Tables, name: &Name) -> Result<Step, AllocError>
-    ensures { IfOk result (λ step. (d : List ModelDeed) → HasRows (rows_of tables.now) d table_ids.Counter → IsMade (rows_of tables.now) d d (model.counter_show d name.now) step) }
+    ensures { IfOk result (λ step. (d : List ModelDeed) → HasRows (rows_of tables.now) d table_ids.Counter →
+        IsMade (rows_of tables.now) d d (model.counter_show d name.now) step) }
 {
     let value = counter_value(alloc, tables, name)?;
     let row = counter_row(alloc, name.as_bytes(), value)?;
@@ -60,7 +61,8 @@ fn copy_of(name: &Name) -> Result<Name, AllocError>
 
 /// The step of a counter that gets a value, or none, with the value that its row shows.
 fn count(alloc: Global, name: &Name, value: Option<u64>, shown: u64) -> Result<Step, AllocError>
-    ensures { IfOk result (λ step. (all : AllRows) (d : List ModelDeed) → IsMade all d d (does (Count name.now value ∷ []) (model.counter_row name.now shown)) step) }
+    ensures { IfOk result (λ step. (all : AllRows) (d : List ModelDeed) →
+        IsMade all d d (does (Count name.now value ∷ []) (model.counter_row name.now shown)) step) }
 {
     let row = counter_row(alloc, name.as_bytes(), shown)?;
     let name = copy_of(name)?;
@@ -71,21 +73,24 @@ fn count(alloc: Global, name: &Name, value: Option<u64>, shown: u64) -> Result<S
 
 /// `counter NAME VALUE`
 pub fn counter_set(alloc: Global, name: &Name, value: u64) -> Result<Step, AllocError>
-    ensures { IfOk result (λ step. (all : AllRows) (d : List ModelDeed) → IsMade all d d (model.counter_set name.now value) step) }
+    ensures { IfOk result (λ step. (all : AllRows) (d : List ModelDeed) →
+        IsMade all d d (model.counter_set name.now value) step) }
 {
     count(alloc, name, Some(value), value)
 }
 
 /// `counter -d NAME`
 pub fn counter_delete(alloc: Global, name: &Name) -> Result<Step, AllocError>
-    ensures { IfOk result (λ step. (all : AllRows) (d : List ModelDeed) → IsMade all d d (model.counter_delete name.now) step) }
+    ensures { IfOk result (λ step. (all : AllRows) (d : List ModelDeed) →
+        IsMade all d d (model.counter_delete name.now) step) }
 {
     count(alloc, name, None, 0)
 }
 
 /// `counters`, from the table of counters alone.
 pub fn counter_list(alloc: Global, tables: &Tables) -> Result<Step, AllocError>
-    ensures { IfOk result (λ step. (d : List ModelDeed) → HasRows (rows_of tables.now) d table_ids.Counter → IsMade (rows_of tables.now) d d (model.counters d) step) }
+    ensures { IfOk result (λ step. (d : List ModelDeed) → HasRows (rows_of tables.now) d table_ids.Counter →
+        IsMade (rows_of tables.now) d d (model.counters d) step) }
 {
     let found = counters_of(alloc, tables)?;
     let counters = found.as_slice();

@@ -22,7 +22,8 @@ use std::alloc::{AllocError, Global};
 
 /// `group -o NAME`, from the table of groups alone.
 pub fn group_show(alloc: Global, tables: &Tables, name: &Name) -> Result<Step, AllocError>
-    ensures { IfOk result (λ step. (d : List Deed) → HasRows (rows_of tables.now) d table_ids.Group → IsMade (rows_of tables.now) d d (model.group_show d name.now) step) }
+    ensures { IfOk result (λ step. (d : List Deed) → HasRows (rows_of tables.now) d table_ids.Group →
+        IsMade (rows_of tables.now) d d (model.group_show d name.now) step) }
 {
     let users = users_of(alloc, tables, name)?;
     let mut fields = Sequence::new(alloc);
@@ -54,7 +55,8 @@ fn names_of(alloc: Global, lines: &[Text]) -> Result<Sequence<Name>, AllocError>
 
 /// The step of a form that could be read.
 fn save(alloc: Global, input: &[u8], form: &Form) -> Result<Step, AllocError>
-    ensures { IfOk result (λ step. (all : AllRows) (d : List Deed) → IsMade all d d (model.saved input.now form.now) step) }
+    ensures { IfOk result (λ step. (all : AllRows) (d : List Deed) →
+        IsMade all d d (model.saved input.now form.now) step) }
 {
     let group = form_value(form, "Group");
     if !is_name(group) {

@@ -62,7 +62,8 @@ fn kept_lines(alloc: Global, lines: &[Text]) -> Result<Sequence<Text>, AllocErro
 
 /// The step of a form that could be read, with these lines.
 fn save(alloc: Global, input: &[u8], lines: &[Text]) -> Result<Step, AllocError>
-    ensures { IfOk result (λ step. (all : AllRows) (d : List Deed) → IsMade all d d (model.saved input.now lines.now) step) }
+    ensures { IfOk result (λ step. (all : AllRows) (d : List Deed) →
+        IsMade all d d (model.saved input.now lines.now) step) }
 {
     if let Err(fault) = Protects::from_lines(alloc, lines) {
         return match fault.what {
@@ -88,7 +89,8 @@ fn save(alloc: Global, input: &[u8], lines: &[Text]) -> Result<Step, AllocError>
 /// `protect -i`: the protections have the lines of the form that the input spells, in place of those that they had. It
 /// is refused first where it can't be read, then by its first bad line, and that it has more than 1,000 lines.
 pub fn protect_save(alloc: Global, input: &[u8]) -> Result<Step, AllocError>
-    ensures { IfOk result (λ step. (all : AllRows) (d : List Deed) → IsMade all d d (model.protect_save input.now) step) }
+    ensures { IfOk result (λ step. (all : AllRows) (d : List Deed) →
+        IsMade all d d (model.protect_save input.now) step) }
 {
     match Form::read(alloc, input, Shape::Protect) {
         Ok(form) => save(alloc, input, form.lines("Protections")),

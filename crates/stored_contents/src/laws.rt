@@ -22,6 +22,7 @@ pub fn contents_stand_after_steps()
     ensures { (all : AllRows) (from : ℕ) (d : List Deed) (told : ModelStep) (step : Step) (changes : List Change) →
         IsSound d → HasRows all d Rev →
         IsStoring all from d told step → AreDifferences all d (after d told.deeds) changes →
-        ((key : Key) → row_in all key ≡ None → row_in (changed_by all changes) key ≡ effects step.deeds (row_in all) key) →
+        ((key : Key) → row_in all key ≡ None →
+        row_in (changed_by all changes) key ≡ effects step.deeds (row_in all) key) →
         StandAfter all from d (after d told.deeds) step.stores changes }
 {}

@@ -103,7 +103,8 @@ pub fn credits_of(
     client: &Name,
     path: &DepotPath,
 ) -> Result<Sequence<Credit>, AllocError>
-    ensures { IfOk result (λ credits. (d : List Deed) (o : Opening) → IsSound d → HasRows (rows_of tables.now) d table_ids.Resolve → opened d client.now path.now ≡ Some o →
+    ensures { IfOk result (λ credits. (d : List Deed) (o : Opening) → IsSound d →
+        HasRows (rows_of tables.now) d table_ids.Resolve → opened d client.now path.now ≡ Some o →
         map credit_said credits ≡ credits_said d o) }
 {
     rows_tell_resolves(tables);

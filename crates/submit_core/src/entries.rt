@@ -134,7 +134,8 @@ fn all_credits(
     tables: &Tables,
     opening: &Opening,
 ) -> Result<Sequence<Credit>, AllocError>
-    ensures { IfOk result (λ credits. (d : List Deed) → IsSound d → HasRows (rows_of tables.now) d table_ids.Resolve → IsOpened d opening.now.client opening.now →
+    ensures { IfOk result (λ credits. (d : List Deed) → IsSound d → HasRows (rows_of tables.now) d table_ids.Resolve →
+        IsOpened d opening.now.client opening.now →
         map credit_said credits ≡ model.credits_of d (opening_said opening.now) ++ model.move_credits (opening_said opening.now)) }
 {
     let mut credits = credits_of(alloc, tables, &opening.client, &opening.path)?;
@@ -157,7 +158,8 @@ fn own_path(path: &Option<DepotPath>) -> Result<Option<DepotPath>, AllocError>
 
 /// The number of the next revision of a file.
 fn next_revision(alloc: Global, tables: &Tables, path: &DepotPath) -> Result<u32, AllocError>
-    ensures { IfOk result (λ rev. (d : List Deed) → IsSound d → HasRows (rows_of tables.now) d table_ids.Rev → rev ≡ head d path.now + 1) }
+    ensures { IfOk result (λ rev. (d : List Deed) → IsSound d → HasRows (rows_of tables.now) d table_ids.Rev →
+        rev ≡ head d path.now + 1) }
 {
     let head = head_of(alloc, tables, path)?;
     match head.checked_add(1) {
@@ -174,9 +176,11 @@ fn entry_of(
     content: Option<Stored>,
 ) -> Result<Entry, AllocError>
     ensures content { IfOk result (λ entry. entry.content ≡ content) }
-    ensures entry { IfOk result (λ entry. (d : List Deed) (request : AnyRequest) → IsSound d → HasRows (rows_of tables.now) d table_ids.Resolve →
+    ensures entry { IfOk result (λ entry. (d : List Deed) (request : AnyRequest) → IsSound d →
+        HasRows (rows_of tables.now) d table_ids.Resolve →
         HasRows (rows_of tables.now) d table_ids.Rev → IsOpened d opening.now.client opening.now →
-        IsStored content (model.content_of d request (opening_said opening.now)) → IsEntry d entry (model.entry_of d request (opening_said opening.now))) }
+        IsStored content (model.content_of d request (opening_said opening.now)) →
+        IsEntry d entry (model.entry_of d request (opening_said opening.now))) }
 {
     let path = opening.path.clone()?;
     let rev = next_revision(alloc, tables, &opening.path)?;
@@ -203,7 +207,8 @@ fn add_file(
     files: &mut Files,
     opening: &Opening,
 ) -> Result<(), AllocError>
-    ensures { OnOk result ((d : List Deed) (request : AnyRequest) (from : ℕ) (taken : List ModelOpening) → Reads (rows_of tables.now) d request asker.now contents.now →
+    ensures { OnOk result ((d : List Deed) (request : AnyRequest) (from : ℕ) (taken : List ModelOpening) →
+        Reads (rows_of tables.now) d request asker.now contents.now →
         IsOpened d request.caller.client opening.now → AreFiles (rows_of tables.now) d request from taken files.old →
         AreFiles (rows_of tables.now) d request from (taken ++ opening_said opening.now ∷ []) files.new) }
 {
@@ -224,7 +229,8 @@ pub(crate) fn files_of(
     from: u64,
     openings: &[Opening],
 ) -> Result<Files, AllocError>
-    ensures { IfOk result (λ files. (d : List Deed) (request : AnyRequest) → Reads (rows_of tables.now) d request asker.now contents.now → AreOpened d request.caller.client openings.now →
+    ensures { IfOk result (λ files. (d : List Deed) (request : AnyRequest) →
+        Reads (rows_of tables.now) d request asker.now contents.now → AreOpened d request.caller.client openings.now →
         AreFiles (rows_of tables.now) d request from (map opening_said openings.now) files) }
 {
     let mut files = Files {

@@ -136,7 +136,8 @@ pub(crate) fn later_deeds(
     number: u32,
     entries: &[Entry],
 ) -> Result<Deeds, AllocError>
-    ensures { IfOk result (λ deeds. (d files dropped : List ModelDeed) → IsSound d → HasRows (rows_of tables.now) d table_ids.Domain →
+    ensures { IfOk result (λ deeds. (d files dropped : List ModelDeed) → IsSound d →
+        HasRows (rows_of tables.now) d table_ids.Domain →
         AreTold (dropped_by change number) dropped → AreTold (flat_map (ends_of client.now) entries.now) files →
         AreTold deeds (dropped ++ files ++ flat_map (model.closing d change number) (model.fixes_of d change))) }
 {

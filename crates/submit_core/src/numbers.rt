@@ -27,7 +27,8 @@ fn value_in(row: Option<&Record>) -> u64
 
 /// The greatest number of a change.
 fn greatest(alloc: Global, tables: &Tables) -> Result<u64, AllocError>
-    ensures { IfOk result (λ number. (d : List Deed) → HasRows (rows_of tables.now) d table_ids.Counter → number ≡ top d) }
+    ensures { IfOk result (λ number. (d : List Deed) → HasRows (rows_of tables.now) d table_ids.Counter →
+        number ≡ top d) }
 {
     let name = Text::from_bytes(alloc, b"change")?;
     let key = Key::Counter { name };
@@ -62,7 +63,8 @@ fn kept_or_next(change: u32, greatest: u64) -> Result<u64, AllocError>
 /// all, else the next one, from the table of counters alone (Command-Line Reference, "p4 submit"). The one error is
 /// want of memory.
 pub(crate) fn landing_number(alloc: Global, tables: &Tables, change: u32) -> Result<u64, AllocError>
-    ensures { IfOk result (λ number. (d : List Deed) → HasRows (rows_of tables.now) d table_ids.Counter → number ≡ model.landing_number d change) }
+    ensures { IfOk result (λ number. (d : List Deed) → HasRows (rows_of tables.now) d table_ids.Counter →
+        number ≡ model.landing_number d change) }
 {
     let greatest = greatest(alloc, tables)?;
     let number = kept_or_next(change, greatest)?;

@@ -26,7 +26,8 @@ pub(crate) fn openings_of(
     asker: &Asker,
     change: u32,
 ) -> Result<Sequence<Opening>, AllocError>
-    ensures { IfOk result (λ openings. (d : List Deed) (caller : AnyCaller) → IsSound d → IsAsker d caller asker.now → HasRows (rows_of tables.now) d table_ids.Working →
+    ensures { IfOk result (λ openings. (d : List Deed) (caller : AnyCaller) → IsSound d → IsAsker d caller asker.now →
+        HasRows (rows_of tables.now) d table_ids.Working →
         map opening_said openings ≡ model.openings_of d caller change) }
 {
     let openings = openings_in(alloc, tables, &asker.client, change)?;

@@ -106,7 +106,8 @@ fn resolve_refusal(
     tables: &Tables,
     opening: &Opening,
 ) -> Result<Option<Row>, AllocError>
-    ensures { IfOk result (λ row. (d : List Deed) → IsSound d → HasRows (rows_of tables.now) d table_ids.Resolve → IsOpened d opening.now.client opening.now →
+    ensures { IfOk result (λ row. (d : List Deed) → IsSound d → HasRows (rows_of tables.now) d table_ids.Resolve →
+        IsOpened d opening.now.client opening.now →
         row ≡ option_map refusal_row (refuse_if (list_any model.is_unpaid (model.resolves_of d (opening_said opening.now))) (refusals.MustResolve opening.now.path))) }
 {
     let owes = owes_resolve(alloc, tables, &opening.client, &opening.path)?;
@@ -183,7 +184,8 @@ fn content_refusal(
     contents: &Contents,
     opening: &Opening,
 ) -> Result<Option<Row>, AllocError>
-    ensures { IfOk result (λ row. (d : List Deed) (request : AnyRequest) → Reads (rows_of tables.now) d request asker.now contents.now → opening.now.client ≡ request.caller.client →
+    ensures { IfOk result (λ row. (d : List Deed) (request : AnyRequest) →
+        Reads (rows_of tables.now) d request asker.now contents.now → opening.now.client ≡ request.caller.client →
         row ≡ option_map refusal_row (refuse_if (model.lacks_content d request (opening_said opening.now)) (refusals.NoContent opening.now.path))) }
 {
     let lacks = lacks_content(alloc, tables, asker, contents, opening)?;
@@ -201,7 +203,8 @@ fn sooner_refusal(
     asker: &Asker,
     opening: &Opening,
 ) -> Result<Option<Row>, AllocError>
-    ensures { IfOk result (λ row. (d : List Deed) (request : AnyRequest) → IsSound d → IsAsker d request.caller asker.now → HasRows (rows_of tables.now) d table_ids.Working →
+    ensures { IfOk result (λ row. (d : List Deed) (request : AnyRequest) → IsSound d →
+        IsAsker d request.caller asker.now → HasRows (rows_of tables.now) d table_ids.Working →
         HasRows (rows_of tables.now) d table_ids.Rev →
         row ≡ option_map refusal_row (first_of (sooner_refusals d request (opening_said opening.now)))) }
 {
@@ -225,7 +228,8 @@ fn later_refusal(
     contents: &Contents,
     opening: &Opening,
 ) -> Result<Option<Row>, AllocError>
-    ensures { IfOk result (λ row. (d : List Deed) (request : AnyRequest) → Reads (rows_of tables.now) d request asker.now contents.now → IsOpened d request.caller.client opening.now →
+    ensures { IfOk result (λ row. (d : List Deed) (request : AnyRequest) →
+        Reads (rows_of tables.now) d request asker.now contents.now → IsOpened d request.caller.client opening.now →
         row ≡ option_map refusal_row (first_of (later_refusals d request (opening_said opening.now)))) }
 {
     let owed = resolve_refusal(alloc, tables, opening)?;
@@ -248,7 +252,8 @@ fn file_refusal(
     contents: &Contents,
     opening: &Opening,
 ) -> Result<Option<Row>, AllocError>
-    ensures { IfOk result (λ row. (d : List Deed) (request : AnyRequest) → Reads (rows_of tables.now) d request asker.now contents.now → IsOpened d request.caller.client opening.now →
+    ensures { IfOk result (λ row. (d : List Deed) (request : AnyRequest) →
+        Reads (rows_of tables.now) d request asker.now contents.now → IsOpened d request.caller.client opening.now →
         row ≡ option_map refusal_row (first_of (model.file_refusals d request (opening_said opening.now)))) }
 {
     let sooner = sooner_refusal(alloc, tables, asker, opening)?;
@@ -267,7 +272,8 @@ pub(crate) fn files_refusal(
     contents: &Contents,
     openings: &[Opening],
 ) -> Result<Option<Row>, AllocError>
-    ensures { IfOk result (λ row. (d : List Deed) (request : AnyRequest) → Reads (rows_of tables.now) d request asker.now contents.now → AreOpened d request.caller.client openings.now →
+    ensures { IfOk result (λ row. (d : List Deed) (request : AnyRequest) →
+        Reads (rows_of tables.now) d request asker.now contents.now → AreOpened d request.caller.client openings.now →
         row ≡ option_map refusal_row (first_of (flat_map (model.file_refusals d request) (map opening_said openings.now)))) }
 {
     for opening in openings {

@@ -92,7 +92,8 @@ fn submit_refusal(
     text: &Text,
     openings: &[Opening],
 ) -> Result<Option<Row>, AllocError>
-    ensures { IfOk result (λ row. (d : List Deed) (request : AnyRequest) → Reads (rows_of tables.now) d request asker.now contents.now → AreOpened d request.caller.client openings.now →
+    ensures { IfOk result (λ row. (d : List Deed) (request : AnyRequest) →
+        Reads (rows_of tables.now) d request asker.now contents.now → AreOpened d request.caller.client openings.now →
         row ≡ option_map refusal_row (first_of (submit_refusals d request change number text.now (map opening_said openings.now)))) }
 {
     let front = front_refusal(alloc, change, text, openings)?;
@@ -118,8 +119,11 @@ fn land(
     text: &Text,
     openings: &[Opening],
 ) -> Result<Step, AllocError>
-    ensures { IfOk result (λ step. (d : List Deed) → Reads (rows_of tables.now) d request.now asker.now request.now.contents → HasRows (rows_of tables.now) d table_ids.Domain →
-        AreOpened d request.now.caller.client openings.now → map opening_said openings.now ≡ model.openings_of d request.now.caller change →
+    ensures { IfOk result (λ step. (d : List Deed) →
+        Reads (rows_of tables.now) d request.now asker.now request.now.contents →
+        HasRows (rows_of tables.now) d table_ids.Domain →
+        AreOpened d request.now.caller.client openings.now →
+        map opening_said openings.now ≡ model.openings_of d request.now.caller change →
         number ≡ model.landing_number d change → MaySubmit d request.now change →
         IsStoring (rows_of tables.now) tables.now.archive_end d (model.landed d request.now change text.now (model.openings_of d request.now.caller change)) step) }
 {
@@ -170,8 +174,11 @@ fn land_unless(
     text: &Text,
     openings: &[Opening],
 ) -> Result<Step, AllocError>
-    ensures { IfOk result (λ step. (d : List Deed) → Reads (rows_of tables.now) d request.now asker.now request.now.contents → HasRows (rows_of tables.now) d table_ids.Domain →
-        AreOpened d request.now.caller.client openings.now → map opening_said openings.now ≡ model.openings_of d request.now.caller change →
+    ensures { IfOk result (λ step. (d : List Deed) →
+        Reads (rows_of tables.now) d request.now asker.now request.now.contents →
+        HasRows (rows_of tables.now) d table_ids.Domain →
+        AreOpened d request.now.caller.client openings.now →
+        map opening_said openings.now ≡ model.openings_of d request.now.caller change →
         number ≡ model.landing_number d change → IsAsked d request.now change →
         IsStoring (rows_of tables.now) tables.now.archive_end d (model.submit d request.now change text.now) step) }
 {
@@ -209,7 +216,8 @@ fn submit(
     change: u32,
     text: &Text,
 ) -> Result<Step, AllocError>
-    ensures { IfOk result (λ step. (d : List Deed) → HasSubmitted (rows_of tables.now) d → IsAsker d request.now.caller asker.now → IsAsked d request.now change →
+    ensures { IfOk result (λ step. (d : List Deed) → HasSubmitted (rows_of tables.now) d →
+        IsAsker d request.now.caller asker.now → IsAsked d request.now change →
         IsStoring (rows_of tables.now) tables.now.archive_end d (model.submit d request.now change text.now) step) }
 {
     let openings = openings_of(alloc, tables, asker, change)?;
@@ -240,7 +248,8 @@ pub fn submit_default(
     asker: &Asker,
     text: &Text,
 ) -> Result<Step, AllocError>
-    ensures { IfOk result (λ step. (d : List Deed) → IsSound d → IsAsker d request.now.caller asker.now → HasRows (rows_of tables.now) d table_ids.Counter →
+    ensures { IfOk result (λ step. (d : List Deed) → IsSound d → IsAsker d request.now.caller asker.now →
+        HasRows (rows_of tables.now) d table_ids.Counter →
         HasRows (rows_of tables.now) d table_ids.Domain → HasRows (rows_of tables.now) d table_ids.Resolve →
         HasRows (rows_of tables.now) d table_ids.Working → HasRows (rows_of tables.now) d table_ids.Rev →
         IsStoring (rows_of tables.now) tables.now.archive_end d (model.submit_default d request.now text.now) step) }
@@ -259,8 +268,10 @@ fn submit_pending(
     asker: &Asker,
     change: u32,
 ) -> Result<Step, AllocError>
-    ensures { IfOk result (λ step. (d : List Deed) (p : Pending) → HasSubmitted (rows_of tables.now) d → IsAsker d request.now.caller asker.now →
-        HasRows (rows_of tables.now) d table_ids.Change → IsFalse (is_shelved d change) → pending d change ≡ Some p → p.client ≡ request.now.caller.client →
+    ensures { IfOk result (λ step. (d : List Deed) (p : Pending) → HasSubmitted (rows_of tables.now) d →
+        IsAsker d request.now.caller asker.now →
+        HasRows (rows_of tables.now) d table_ids.Change → IsFalse (is_shelved d change) → pending d change ≡ Some p →
+        p.client ≡ request.now.caller.client →
         IsStoring (rows_of tables.now) tables.now.archive_end d (model.submit d request.now change p.text) step) }
 {
     // the bytes of a name are one
@@ -287,7 +298,8 @@ pub fn submit_change(
     asker: &Asker,
     change: u32,
 ) -> Result<Step, AllocError>
-    ensures { IfOk result (λ step. (d : List Deed) → IsSound d → IsFalse (is_shelved d change) → IsAsker d request.now.caller asker.now →
+    ensures { IfOk result (λ step. (d : List Deed) → IsSound d → IsFalse (is_shelved d change) →
+        IsAsker d request.now.caller asker.now →
         HasRows (rows_of tables.now) d table_ids.Counter → HasRows (rows_of tables.now) d table_ids.Domain →
         HasRows (rows_of tables.now) d table_ids.Resolve → HasRows (rows_of tables.now) d table_ids.Working →
         HasRows (rows_of tables.now) d table_ids.Change → HasRows (rows_of tables.now) d table_ids.Rev →

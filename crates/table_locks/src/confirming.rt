@@ -42,7 +42,8 @@ impl<'a, N: Naming> Gathered<'a, N> {
         requires { IsShown N.rows self }
         ensures same { order.new ≡ order.old }
         ensures confirmed { IfSome result (IsConfirmed N.rows order.old self.entry) }
-        ensures set { IfSome result (λ confirmed. (request : Request) → Covers self.entry request → HasSet (rows_after N.rows order.old) (rows_of confirmed.tables) request) }
+        ensures set { IfSome result (λ confirmed. (request : Request) → Covers self.entry request →
+            HasSet (rows_after N.rows order.old) (rows_of confirmed.tables) request) }
         ensures judged { is_some result ≡ not (list_any (is_touched order.old) self.entry.peeks.items) }
     {
         let Gathered {

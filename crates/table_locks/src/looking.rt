@@ -64,7 +64,8 @@ impl<'a, N: Naming> Gathered<'a, N> {
         ensures held { OnOk result (tables_held self.new ≡ filter (holds_table whole needs.now) all_tables) }
         ensures seen { OnOk result (tables_seen self.new ≡ filter (looks_at whole needs.now) all_tables) }
         ensures alone { OnOk result (IsTrue whole → self.new.peeks.items ≡ []) }
-        ensures covers { OnOk result ((request : Request) → AreOfWords request.command needs.now → Covers self.new request) }
+        ensures covers { OnOk result ((request : Request) → AreOfWords request.command needs.now →
+            Covers self.new request) }
     {
         for table in TableId::ALL {
             self.look_next(words, order, tables, needs, whole, table)?;

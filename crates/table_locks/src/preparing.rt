@@ -110,8 +110,10 @@ impl<'a, N: Naming> Confirmed<'a, N> {
         changes: &[Change],
     ) -> Result<Vec<HeldTable<'a, N>>, AllocError>
         requires held { IsTrue (are_held self.held.items changes.now) }
-        ensures prepared { IfOk result (λ prepared. (order : List Taken) (gathered : Gathered N) → IsConfirmed N.rows order gathered self.entry →
-            ((table : AnyTable) → rows_of after.now table ≡ changed_by (rows_after N.rows order) changes.now table) → IsPrepared N.rows changes.now prepared.items) }
+        ensures prepared { IfOk result (λ prepared. (order : List Taken) (gathered : Gathered N) →
+            IsConfirmed N.rows order gathered self.entry →
+            ((table : AnyTable) → rows_of after.now table ≡ changed_by (rows_after N.rows order) changes.now table) →
+            IsPrepared N.rows changes.now prepared.items) }
         ensures held { IfOk result (λ prepared. tables_of prepared.items ≡ tables_of self.entry.held.items) }
     {
         let Confirmed { mut held, tables } = self;

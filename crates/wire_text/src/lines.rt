@@ -24,7 +24,8 @@ pub(crate) enum LineRead {
 
 /// Moves the bytes that are held up to the next line feed to the end of a line, and answers whether there was one.
 fn move_line(intake: &mut Intake, line: &mut Vec<u8>) -> Result<bool, AllocError>
-    ensures line { IfOk result (λ is_whole. (piece : List ℕ) × (line.new.items ≡ line.old.items ++ piece) × TakesLine intake.old intake.new piece is_whole) }
+    ensures line { IfOk result (λ is_whole. (piece : List ℕ) × (line.new.items ≡ line.old.items ++ piece) ×
+        TakesLine intake.old intake.new piece is_whole) }
     ensures most { OnOk result (intake.new.place + length intake.new.held ≤ 67108864) }
 {
     let held = intake.held();
