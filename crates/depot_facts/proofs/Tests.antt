@@ -1,6 +1,6 @@
 -- Truth values and numbers, as tests give them.
 use Rattle.std.proofs.Common.{◌≡◌, ◌≤◌, ℕ, Bool, true, false, refl, arith}
-use Rattle.std.specs.Prelude.{◌&&◌, ◌||◌, nat_le, not}
+use Rattle.std.specs.Prelude.{nat_le, not}
 use Rattle.std.proofs.lemmas.Bool.Decides.{nat_tests}
 
 pub not_false : (b : Bool) → not b ≡ false → b ≡ true
