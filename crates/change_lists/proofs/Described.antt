@@ -1,5 +1,5 @@
 -- What is told of a change by its record, and of its revisions by theirs, is what the model tells.
-use Rattle.std.proofs.Common.{Bor, ◌≤◌, ◌≡◌, ℕ, Bool, true, false, suc, ◌+◌, append_assoc, List, [], ◌∷◌, ◌++◌, Option, Some, None, refl, sym, ap, subst, ◌∙◌, length, arith}
+use Rattle.std.proofs.Common.{Bor, ◌≤◌, ◌≡◌, ℕ, Bool, true, false, ◌+◌, append_assoc, List, [], ◌∷◌, ◌++◌, Option, Some, None, refl, sym, ap, subst, ◌∙◌, length, arith}
 use Rattle.std.specs.Prelude.{◌==◌, codes, decimal, flat_map, if◌then◌else◌, IsSome, map, option_map}
 use Rattle.std.specs.List.{enumerate_from}
 use Rattle.std.proofs.lemmas.Bool.Decides.{nat_tests}
@@ -81,14 +81,6 @@ all_fields d k (r ∷ rs) (x ∷ xs) e =
     let one : seen r ≡ numbered_record x = cc in
     let more : map seen rs ≡ map numbered_record xs = cc in
     λ i. fields_are d k r x one i ++ all_fields d (k + 1) rs xs more i
-
-pub as_many : (rs : List RevRecord) (xs : List Numbered) → map seen rs ≡ map numbered_record xs → length rs ≡ length xs
-as_many [] [] e = refl
-as_many [] (x ∷ xs) e = absurd cc
-as_many (r ∷ rs) [] e = absurd cc
-as_many (r ∷ rs) (x ∷ xs) e =
-    let more : map seen rs ≡ map numbered_record xs = cc in
-    ap suc (as_many rs xs more)
 
 -- fields one after another
 pub five_pushed : (f f1 f2 f3 f4 f5 : List Field) (a b c n : Field) (more : List Field) → f1 ≡ f ++ a ∷ [] → f2 ≡ f1 ++ b ∷ [] → f3 ≡ f2 ++ c ∷ [] → f4 ≡ f3 ++ n ∷ []

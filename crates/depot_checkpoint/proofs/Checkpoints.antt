@@ -1,7 +1,6 @@
 -- What a checkpoint changes in the rows of a depot, and the generation that begins with them.
-use Rattle.std.proofs.Common.{◌≡◌, ◌≢◌, ◌⊎◌, ℕ, ◌+◌, ◌<◌, ◌≤◌, Bool, true, List, [], ◌∷◌, Option, Some, None, refl, sym, ap, subst, ◌∙◌, inl, inr, arith}
-use Rattle.std.proofs.lemmas.Bool.Decides.{nat_tests}
-use Rattle.std.specs.Prelude.{All, ◌==◌, codes, nat_le, option_map, unwrap_or, if◌then◌else◌}
+use Rattle.std.proofs.Common.{◌≡◌, ◌≢◌, ◌⊎◌, ℕ, ◌+◌, ◌<◌, ◌≤◌, true, List, [], ◌∷◌, Option, Some, None, refl, sym, ap, subst, ◌∙◌, inl, inr, arith}
+use Rattle.std.specs.Prelude.{All, ◌==◌, codes, option_map, unwrap_or, if◌then◌else◌}
 use Rattle.std.specs.List.{AllByRecursion}
 use Rattle.std.proofs.lemmas.List.Elements.{All-from_recursion, recursion_from_All}
 use Rattle.outside_api.specs.Disk.{Files}
@@ -40,17 +39,11 @@ use Rattle.sound_form_steps.proofs.Changing.{checkpoint_sound}
 use Rattle.spec_ops.proofs.NextGeneration.{is_last, is_next}
 use Rattle.depot_rows.specs.table_changes.Changed.{AllRows, changed_by, changed_in}
 use Rattle.depot_rows.specs.table_store.Rows.{changed_once}
-use Rattle.depot_checkpoint.specs.Taking.{IsNextOf, MayHaveBegun, StandsBeforeOrAfter, checkpointed, next_generation}
+use Rattle.depot_checkpoint.specs.Taking.{IsNextOf, MayHaveBegun, StandsBeforeOrAfter, checkpointed}
 use Rattle.step_limits.specs.Limits.{generation_in}
 use Rattle.depot_checkpoint.specs.Values.{IsWide}
 
 -- ---- the generation behind one
-
-pub none_behind : (generation : ℕ) → 4095 ≤ generation → next_generation generation ≡ None
-none_behind generation last = ap (λ (b : Bool). if b then None else Some (generation + 1)) (reached generation last)
-  where
-    reached : (n : ℕ) → 4095 ≤ n → nat_le 4095 n ≡ true
-    reached n last = grind (arith, nat_tests)
 
 -- ---- the depot after a checkpoint: of the next generation, or, at the last one, as it was
 

@@ -4,7 +4,7 @@ use Rattle.std.specs.Prelude.{if◌then◌else◌, insert, nat_lt}
 use Rattle.std.specs.Ordering.{is_eq, is_lt}
 use Rattle.std.specs.declared.cmp.Ordering.{Ordering}
 use Rattle.std.specs.declared.cmp.Ordering.TheVariants.{Less, Equal, Greater}
-use Rattle.std.proofs.lemmas.List.{take_all, take_more, drop_all, reverse-append, take-append-drop}
+use Rattle.std.proofs.lemmas.List.{take_more, reverse-append, take-append-drop}
 use Rattle.std.proofs.lemmas.Bool.Decides.{nat_tests}
 use Rattle.depot_rows.specs.depot_path.Bytes.{same}
 use Rattle.depot_rows.specs.depot_path.Order.{path_cmp}
@@ -107,11 +107,6 @@ module _ (paths : List (List ℕ)) (p : List ℕ) where
   -- what stands from a place on, before what is left to look at
   abbrev pub looked : ℕ → Type 0
   looked at = path_inserted p (reverse paths) ≡ reverse (drop at paths) ++ path_inserted p (reverse (take at paths))
-
-  pub looks : looked (length paths)
-  looks =
-      ap (λ (x : List (List ℕ)). path_inserted p (reverse x)) (sym (take_all (length paths) paths (omega arith)))
-      ∙ ap (λ (x : List (List ℕ)). reverse x ++ path_inserted p (reverse (take (length paths) paths))) (sym (drop_all (length paths) paths (omega arith)))
 
   module _ (at : ℕ) (q : List ℕ) (within : at < length paths) (is : q ≡ get_or paths at q) where
     front : reverse (take (at + 1) paths) ≡ q ∷ reverse (take at paths)

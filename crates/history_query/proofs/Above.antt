@@ -1,11 +1,11 @@
 -- The directories above a path are its fronts before slashes, and those of files that a depot has are those that an argument asks for.
 use Rattle.std.proofs.Common.{◌≡◌, ℕ, ◌+◌, ◌-◌, ◌≤◌, Bool, true, false, cond, List, [], ◌∷◌, ◌++◌, Option, Some, None, refl, sym, ap, subst, ◌∙◌, append_assoc, append-nil, arith}
-use Rattle.std.specs.Prelude.{◌||◌, ◌&&◌, ◌==◌, codes, drop, filter, filter_map, flat_map, if◌then◌else◌, length, nat_eq, take}
+use Rattle.std.specs.Prelude.{◌||◌, ◌&&◌, ◌==◌, codes, drop, filter, filter_map, flat_map, if◌then◌else◌, nat_eq, take}
 use Rattle.std.specs.List.{cons_option, list_all, list_any, onto_first, slice_split}
 use Rattle.std.specs.Option.{option_to_list}
 use Rattle.std.proofs.lemmas.Bool.{eqb-true, false≢true, and_parts}
 use Rattle.std.proofs.lemmas.Grind.{flat_map-append}
-use Rattle.std.proofs.lemmas.List.{drop_all, take-append-drop}
+use Rattle.std.proofs.lemmas.List.{take-append-drop}
 use Rattle.depot_rows.proofs.depot_path.Rows.{begins_literal}
 use Rattle.depot_rows.specs.depot_path.Bytes.{begins_with}
 use Rattle.depot_rows.specs.depot_path.Fit.{fits}
@@ -319,11 +319,6 @@ submitted_are_paths d sound = all_paths (submitted d) (files_rise Submitted d so
 
 abbrev pub fitting_from : List Piece → List ℕ → ℕ → List (List ℕ) → List (List ℕ)
 fitting_from pattern path at texts = all_fitting pattern (slash_fronts (take at path) (drop at path)) texts
-
--- at the end there is nothing yet
-pub at_end : (pattern : List Piece) (path : List ℕ) (n : ℕ) (texts : List (List ℕ)) → n ≡ length path → texts ≡ fitting_from pattern path n texts
-at_end pattern path n texts e =
-    sym (ap (λ (rest : List ℕ). all_fitting pattern (slash_fronts (take n path) rest) texts) (ap (λ (k : ℕ). drop k path) e ∙ drop_all (length path) path (omega arith)))
 
 -- at the first two slashes all are there
 pub at_two : (pattern : List Piece) (path bytes : List ℕ) (n : ℕ) (texts set : List (List ℕ)) → bytes ≡ path → is_path bytes ≡ true → 2 ≤ n → n ≤ 2

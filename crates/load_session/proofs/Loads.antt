@@ -1,5 +1,5 @@
 -- What the reading of a load's script and the serving of its session give.
-use Rattle.std.proofs.Common.{◌≡◌, ℕ, Bool, true, false, List, [], ◌∷◌, length, map, get_or, Option, Some, None, refl, sym, ap, subst, arith}
+use Rattle.std.proofs.Common.{◌≡◌, ℕ, Bool, true, false, List, [], ◌∷◌, length, map, get_or, Option, None, refl, sym, subst, arith}
 use Rattle.std.specs.Prelude.{All}
 use Rattle.outside_api.specs.Count.{HasRisen}
 use Rattle.depot_model.specs.Deeds.{Deed}
@@ -8,9 +8,7 @@ use Rattle.depot_model.specs.Places.{Placed}
 use Rattle.depot_model.specs.declared.order.Place.{Place}
 use Rattle.depot_model.specs.declared.request.Session.{Session}
 use Rattle.depot_runs.specs.Run.{placed}
-use Rattle.session_loop.specs.Asking.{Asking, asking_of, commands_of}
-use Rattle.session_loop.specs.Reading.{IsAsked}
-use Rattle.session_loop.specs.declared.reading.ReplicaScript.{ReplicaScript}
+use Rattle.session_loop.specs.Asking.{asking_of, commands_of}
 use Rattle.session_loop.specs.Served.{IsServed, IsTurn}
 use Rattle.wire_text.specs.declared.script.ScriptEnd.{ScriptEnd}
 use Rattle.wire_text.specs.declared.script.ScriptEnd.TheVariants.{Whole, Fault, ReadFault}
@@ -20,12 +18,6 @@ use Rattle.load_session.proofs.Turns.{each_has_its_own}
 -- a count that stays 0 hasn't risen
 not_risen : HasRisen 0 0 → ⊥
 not_risen risen = omega (arith, risen)
-
--- bytes that can't fail are read to their end
-pub read_is : (bytes : List ℕ) (left : Option (List ℕ)) (session : Option Session) (replica : Option ReplicaScript) (end : ScriptEnd) → IsAsked (Some bytes) left 0 0 session replica end → IsAskedBy bytes session end
-read_is bytes left session replica Whole asked = (ap (λ (s : Asking). s.session) asked, ap (λ (s : Asking). s.fault) asked)
-read_is bytes left session replica (Fault fault) asked = (ap (λ (s : Asking). s.session) asked, ap (λ (s : Asking). s.fault) asked)
-read_is bytes left session replica ReadFault asked = not_risen asked.0
 
 -- the session that is read is that of the bytes
 pub session_is : (bytes : List ℕ) (session : Option Session) (end : ScriptEnd) → IsAskedBy bytes session end → session ≡ (asking_of bytes).session

@@ -15,8 +15,7 @@ use Rattle.depot_rows.specs.db_records.declared.record.Record.{Record}
 use Rattle.depot_rows.specs.db_records.declared.record.Record.TheVariants as records
 use Rattle.depot_rows.specs.db_records.declared.table.TableId.{TableId}
 use Rattle.depot_rows.proofs.db_records.Order.{keys_equal}
-use Rattle.depot_rows.specs.table_changes.Changed.{AllRows, changed_in, changed_by}
-use Rattle.depot_rows.specs.table_store.Rows.{changed_once}
+use Rattle.depot_rows.specs.table_changes.Changed.{AllRows}
 use Rattle.depot_rows.specs.depot_model.Deeds.{Deed}
 use Rattle.depot_rows.specs.depot_model.Records.{record_of, unplaced, is_at}
 use Rattle.depot_rows.specs.depot_model.Tables.{is_in}
@@ -40,20 +39,6 @@ same_table a b e = own (same_lock (Table a) (Table b) e)
   where
     own : {a b : TableId} → Table a ≡ Table b → a ≡ b
     own e = cc
-
-turned : (a b : ℕ) → eqb a b ≡ false → eqb b a ≡ false
-turned a b apart = elim (true_or_false (eqb b a)) [
-  | inl e ↦ absurd (let is : a ≡ b = sym (same b a e) in let both : true ≡ false = sym (ap (eqb a) (sym is) ∙ itself a) ∙ apart in cc)
-  | inr e ↦ e
-]
-
--- the rows of a table stay of which there is no change
-pub stays_in : (rows : AllRows) (changes : List Change) (table : TableId) → is_changed changes table ≡ false → changed_by rows changes table ≡ rows table
-stays_in rows [] table none = refl
-stays_in rows (change ∷ changes) table none =
-    let parts = or_parts (eqb (table_number (table_of change.row)) (table_number table)) (is_changed changes table) none in
-    stays_in (changed_in rows change) changes table parts.1
-    ∙ ap (λ b. cond b (changed_once (rows table) change) (rows table)) (turned (table_number (table_of change.row)) (table_number table) parts.0)
 
 of_table : (row : Record) → key_table (key_of row) ≡ table_of row
 of_table (records.Counter r) = refl

@@ -19,11 +19,6 @@ use Rattle.revision_reads.specs.Shown.{shown_in}
 use Rattle.named_files.specs.Asked.{IsAsker, is_named, is_placed, is_shown}
 use Rattle.named_files.specs.declared.asker.Asker.{Asker}
 
--- where the view's answer says
-pub place_is : (later : List ViewLine) (place : Option (List ℕ)) (path : List ℕ) (rivals : List (List ℕ)) → MappedAt path rivals ≡ at_path later place → Some path ≡ place
-place_is later None path rivals e = absurd cc
-place_is later (Some p) path rivals e = cc
-
 module _ (d : List Deed) (caller : Caller) (asker : Asker) (is : IsAsker d caller asker) where
   pub named_is : (spec : FileSpec) (path : List ℕ) → is_named asker spec.pattern path ≡ names true d caller spec path
   named_is spec path =

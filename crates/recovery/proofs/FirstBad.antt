@@ -2,21 +2,13 @@
 use Rattle.std.proofs.Common.{◌≡◌, ℕ, zero, suc, ◌+◌, ◌-◌, ◌<◌, ◌≤◌, List, [], ◌∷◌, ◌++◌, length, take, drop, get_or, Err, refl, sym, ap, subst, ◌∙◌, arith, length-append}
 use Rattle.std.proofs.lemmas.List.{take_more, take-append-drop, get_or-drop}
 use Rattle.depot_rows.specs.db_records.declared.change.Change.{Change}
-use Rattle.journal_groups.specs.Groups.{body_of, change_text}
+use Rattle.journal_groups.specs.Groups.{body_of}
 use Rattle.journal_groups.proofs.Texts.{body_joined}
 use Rattle.recovery.specs.Faults.{IfDamaged, Tells}
 use Rattle.recovery.specs.Pieces.{IsFirstBad, IsBadPlace}
 use Rattle.recovery.specs.declared.fault.OpenFault.{OpenFault}
 use Rattle.recovery.specs.declared.fault.OpenFault.TheVariants.{Unmade, Damaged, DiskFault, Memory}
 use Rattle.recovery.specs.declared.pieces.FileGroups.{FileGroups}
-
--- the text of one change more
-pub body_more : (changes : List Change) (i : ℕ) (change : Change) → i < length changes → change ≡ get_or changes i change → length (body_of (take (i + 1) changes)) ≡ length (body_of (take i changes)) + length (change_text change)
-body_more changes i change within is =
-    let one : body_of (change ∷ []) ≡ change_text change ++ [] = refl in
-    ap (λ (l : List Change). length (body_of l)) (take_more changes i change within ∙ ap (λ (c : Change). take i changes ++ c ∷ []) (sym is))
-    ∙ ap length (body_joined (take i changes) (change ∷ []))
-    ∙ omega (arith, length-append (body_of (take i changes)) (body_of (change ∷ [])), ap length one, length-append (change_text change) [])
 
 first_of : (changes : List Change) (n : ℕ) → n < length changes → (bad : Change) × ((after : List Change) × (drop n changes ≡ bad ∷ after))
 first_of [] n within = absurd (omega (arith, within))

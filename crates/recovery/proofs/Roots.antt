@@ -41,12 +41,6 @@ pub all_closed : (rest : List ℕ) (count : ℕ) → count ≡ length rest → (
 all_closed rest count is same =
     front_same count 109 rest (omega (arith, is)) same ∙ ap (λ (l : List ℕ). replicate count 109 ++ l) (drop_end rest count is) ∙ append_nil (replicate count 109) ∙ ap (λ (n : ℕ). replicate n 109) is
 
-pub closed_all : (rest : List ℕ) (count : ℕ) → count ≤ length rest → (count < length rest → get_or rest count 0 ≢ 109) → rest ≡ replicate (length rest) 109 → count ≡ length rest
-closed_all rest count within next is = elim (cases_lt count (length rest)) [
-  | inl below ↦ absurd (next below (ap (λ (l : List ℕ). get_or l count 0) (is ∙ sym (append_nil (replicate (length rest) 109))) ∙ at_front (length rest) 109 [] count below))
-  | inr done ↦ omega (arith, done, within)
-]
-
 -- a root has one generation: the number of its leading open bytes
 module _ (root : List ℕ) (count : ℕ) (within : count ≤ length root) (before : (k : ℕ) → k < count → get_or root k 0 ≡ 101) (next : count < length root → get_or root count 0 ≢ 101) where
   pub one_generation : (generation : ℕ) → IsRoot generation root → count ≡ generation

@@ -1,6 +1,6 @@
 -- Changes of which some were made.
 use Rattle.std.proofs.Common.{◌≡◌, ◌-◌, Err, List, [], ◌∷◌, ◌++◌, reverse, length, refl, sym, ◌∙◌, ap, subst, append_assoc}
-use Rattle.std.proofs.lemmas.List.{append-nil, reverse-append, reverse-reverse}
+use Rattle.std.proofs.lemmas.List.{reverse-append}
 use Rattle.depot_rows.specs.db_records.declared.change.Change.{Change}
 use Rattle.depot_rows.specs.table_changes.Changed.{AllRows, FitsIn, AllFitIn, changed_in, changed_by}
 use Rattle.journal_groups.specs.Groups.{body_of}
@@ -17,14 +17,6 @@ pub record IsMade (rows after : AllRows) (changes left : List Change) : Type 0 w
   pub parts : changes ≡ made ++ reverse left
   pub fit : AllFitIn rows made
   pub rows_are : after ≡ changed_by rows made
-
-pub none_made : (rows : AllRows) (changes left : List Change) → left ≡ reverse changes → IsMade rows rows changes left
-none_made rows changes left is = record {
-  made = [];
-  parts = sym (ap reverse is ∙ reverse-reverse changes);
-  fit = tt;
-  rows_are = refl;
-}
 
 module _ (rows now : AllRows) (changes left behind : List Change) (change : Change) (some : IsMade rows now changes left) (next : left ≡ behind ++ change ∷ []) where
   -- the next of them, and those behind it
@@ -66,13 +58,3 @@ module _ (rows now : AllRows) (changes left behind : List Change) (change : Chan
           },
         ),
       )
-
-module _ (rows after : AllRows) (changes left : List Change) (some : IsMade rows after changes left) (none : left ≡ []) where
-  whole : changes ≡ some.made
-  whole = some.parts ∙ ap (λ (l : List Change). some.made ++ reverse l) none ∙ append-nil some.made
-
-  pub all_fit : AllFitIn rows changes
-  all_fit = subst (AllFitIn rows) (sym whole) some.fit
-
-  pub all_made : after ≡ changed_by rows changes
-  all_made = some.rows_are ∙ ap (changed_by rows) (sym whole)

@@ -103,13 +103,6 @@ front_on images file bytes place used same within has =
     let front : take place (take used file) ≡ take place bytes = ap (take place) same ∙ take-take place used bytes room in
     record { within = omega (arith, room, within); has = subst (AllHave images (record { at = 0; length = place })) front has.has }
 
--- fewer of the first bytes
-pub shorter : (images : Files → Type 0) (place less : ℕ) (bytes : List ℕ) → less ≤ place → HasFrontTo images place bytes → HasFrontTo images less bytes
-shorter images place less bytes le has = record {
-  within = omega (arith, le, has.within);
-  has = λ image left. at_spot (image 0) bytes place 0 less (has.has image left) has.within (omega (arith, le));
-}
-
 -- where it has grown, what stood there still does
 pub front_same : (before now : List ℕ) (place : ℕ) → IsFront (take place before) now → place ≤ length before → (take place now ≡ take place before) × (place ≤ length now)
 front_same before now place front within =

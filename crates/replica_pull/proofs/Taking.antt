@@ -1,5 +1,5 @@
 -- Groups that are taken one after another.
-use Rattle.std.proofs.Common.{◌≡◌, inl, ℕ, suc, ◌+◌, ◌*◌, ◌<◌, ◌≤◌, List, [], ◌∷◌, ◌++◌, length, Some, refl, sym, ◌∙◌, ap, subst, arith, append_assoc, length-append}
+use Rattle.std.proofs.Common.{◌≡◌, inl, ℕ, suc, ◌+◌, ◌*◌, ◌<◌, ◌≤◌, List, [], ◌∷◌, ◌++◌, length, Some, sym, ◌∙◌, ap, subst, arith, append_assoc, length-append}
 use Rattle.std.specs.List.{AllByRecursion}
 use Rattle.std.proofs.lemmas.List.{append-nil}
 use Rattle.depot_rows.specs.db_records.declared.change.Change.{Change}
@@ -28,10 +28,6 @@ all_joined P [] ys are more = more
 all_joined P (x ∷ xs) ys are more = (are.0, all_joined P xs ys are.1 more)
 
 module _ (rules : List FilterRule) where
-  -- none
-  pub none_taken : (now : State) (rows : AllRows) → AreTaken rules now rows [] now rows
-  none_taken now rows = record { are_groups = tt; text = refl; number = omega arith; place = refl; fit = tt; rows = refl }
-
   -- some, and others behind them
   pub taken_on : (old mid new : State) (before between after : AllRows) (xs ys : List (List Change)) → AreTaken rules old before xs mid between → AreTaken rules mid between ys new after → AreTaken rules old before (xs ++ ys) new after
   taken_on old mid new before between after xs ys first behind = record {

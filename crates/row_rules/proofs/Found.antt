@@ -15,7 +15,6 @@ use Rattle.depot_rows.specs.db_records.Record.{key_of, table_of}
 use Rattle.depot_rows.proofs.db_records.Order.{keys_equal}
 use Rattle.depot_rows.specs.table_store.Rows.{is_at, row_at, AllAbove, IsRising, AllOfTable}
 use Rattle.row_order.proofs.Order.{row_at-above}
-use Rattle.depot_rows.specs.depot_model.Records.{unplaced}
 
 pub eq_is : (o : Ordering) → is_eq o ≡ true → o ≡ Equal
 eq_is Less e = absurd cc
@@ -67,20 +66,6 @@ all_from_found test table [] up of each = refl
 all_from_found test table (x ∷ rows) up of each =
     let here : row_at (key_of x) (x ∷ rows) ≡ Some x = ap (λ b. cond b (Some x) (row_at (key_of x) rows)) (at_own x) in
     λ i. each x here of.0 i && all_from_found test table rows up.1 of.1 (λ row e t. each row (found_behind (key_of row) x row rows up.0 e) t) i
-
--- a row without its place has its key
-pub unplaced_key : (row : Record) → key_of (unplaced row) ≡ key_of row
-unplaced_key (records.Counter row) = refl
-unplaced_key (records.Group row) = refl
-unplaced_key (records.Protect row) = refl
-unplaced_key (records.Domain row) = refl
-unplaced_key (records.Have row) = refl
-unplaced_key (records.Label row) = refl
-unplaced_key (records.Integed row) = refl
-unplaced_key (records.Resolve row) = refl
-unplaced_key (records.Working row) = refl
-unplaced_key (records.Change row) = refl
-unplaced_key (records.Rev row) = refl
 
 -- a row that is found is of the table
 pub of_table : (table : TableId) (key : Key) (row : Record) (rows : List Record) → AllOfTable table rows → row_at key rows ≡ Some row → table_of row ≡ table
