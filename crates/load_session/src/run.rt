@@ -12,7 +12,7 @@ use depot_model::paths::{Sequence, Text};
 use depot_model::{Place, Session};
 use load_script::load_script;
 use outside_api::{Clock, Gate};
-use session_loop::{ReadSession, SessionRun, Taker, read_session, run_session};
+use session_loop::{ReadSession, Taker, read_session, run_session};
 use std::alloc::{AllocError, Global};
 use wire_text::ScriptEnd;
 

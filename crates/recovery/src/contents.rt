@@ -19,7 +19,7 @@ use archive_file::digest_on_disk;
 use depot_rows::records::{Record, RevRecord, Spot};
 use depot_rows::tables::Tables;
 use outside_api::Disk;
-use std::alloc::{AllocError, Global};
+use std::alloc::Global;
 
 /// The file of the archive's disk.
 const CONTENTS: u32 = 0;

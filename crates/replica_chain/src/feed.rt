@@ -15,7 +15,7 @@ use depot_rows::tables::Tables;
 use journal_groups::{GroupFault, GroupReader};
 use recovery::make_fitting;
 use replica_pull::place_before;
-use std::alloc::{AllocError, Global};
+use std::alloc::Global;
 
 /// Makes changes that end at a place of the feed. The place of the first that doesn't fit is told.
 fn make_changes(

@@ -8,7 +8,6 @@ use Rattle.std.specs.declared.cmp.Ordering.TheVariants.{Less, Equal, Greater}
 use Rattle.std.proofs.lemmas.Bool.{true≢false, and_parts}
 use Rattle.depot_rows.specs.db_records.declared.key.Key.{Key}
 use Rattle.depot_rows.specs.db_records.declared.record.Record.{Record}
-use Rattle.depot_rows.specs.db_records.declared.record.Record.TheVariants as records
 use Rattle.depot_rows.specs.db_records.declared.table.TableId.{TableId}
 use Rattle.depot_rows.specs.db_records.Key.{key_cmp}
 use Rattle.depot_rows.specs.db_records.Record.{key_of, table_of}

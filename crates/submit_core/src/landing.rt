@@ -16,7 +16,7 @@ ghost use Rattle.depot_rows.specs.table_changes.Changed.{rows_of};
 use crate::fixes::close_jobs;
 use deed_list::Deeds;
 use depot_rows::model::{Request, Row};
-use depot_rows::paths::{DepotPath, Name, Sequence, Text};
+use depot_rows::paths::{Name, Sequence, Text};
 use depot_rows::tables::Tables;
 use depot_rows::{Action, Entry, Landing};
 use file_contents::is_live_action;
