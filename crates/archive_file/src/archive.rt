@@ -6,7 +6,10 @@ ghost use Rattle.outside_api.specs.Disk.{Files, NoMore, Same, StillTells};
 ghost use Rattle.outside_api.specs.Moments.{LeavesOnly};
 ghost use Rattle.db_records.specs.declared.change.Spot.{Spot};
 ghost use Rattle.archive_file.specs.Archive.{disk_of, used_of, end_of, Has, AllHave, HasMemoryOr, RisesForFaults};
+ghost use Rattle.md5.specs.Md5.{md5};
+ghost use Rattle.hex.specs.Hex.{encode_upper as digits_of};
 
+use crate::digests::digest_on_disk;
 use db_records::Spot;
 use db_records::paths::Text;
 use outside_api::{Disk, DiskFault, fill};
@@ -164,5 +167,20 @@ impl<D: Disk> Archive<D> {
             }
             Err(_) => Err(ContentFault::DiskFault),
         }
+    }
+
+    /// The digest of the bytes at a spot, whether they are counted as used or not. They are read in
+    /// pieces. Where the file ends before the spot does, it is that of the bytes up to there.
+    pub fn digest_at(&mut self, alloc: Global, spot: Spot) -> Result<Text, ContentFault>
+        requires { end_of spot < 2 ^ 63 }
+        ensures digest { (files : Files) → D.says.seen (disk_of self.old) files → end_of spot ≤ length (files 0) → IfOk result (λ text. text ≡ digits_of (md5 (take spot.length (drop spot.at (files 0))))) }
+        ensures same { Same (D.says.seen (disk_of self.old)) (D.says.seen (disk_of self.new)) }
+        ensures crash { NoMore (D.says.may_leave (disk_of self.old)) (D.says.may_leave (disk_of self.new)) }
+        ensures any_moment { LeavesOnly D.says (disk_of self.old) (disk_of self.new) (D.says.may_leave (disk_of self.old)) }
+        ensures used { used_of self.new ≡ used_of self.old }
+        ensures only { RisesForFaults (D.says.faults (disk_of self.old)) (D.says.faults (disk_of self.new)) result }
+        ensures cause { HasMemoryOr (D.says.faults (disk_of self.old)) (D.says.faults (disk_of self.new)) result }
+    {
+        digest_on_disk(alloc, &mut self.disk, spot, &mut [0u8; 4096])
     }
 }
