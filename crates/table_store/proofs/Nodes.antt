@@ -12,6 +12,8 @@ use Rattle.db_records.specs.declared.change.Op.{Op}
 use Rattle.db_records.specs.declared.record.Record.{Record}
 use Rattle.table_store.specs.Places.{Place, place_cmp, AllStandBelow, AllStandAbove, StandsRising, IsPage, first_order, standing_at, standing_from, placed_once}
 use Rattle.table_store.specs.Nodes.{rows_of, AllFilled, AreNodes, IsNodeCount, ReplacesNode, ChangesNode}
+use Rattle.table_store.specs.Parts.{AreParts}
+use Rattle.table_store.specs.declared.node.Parts.{Parts}
 use Rattle.table_store.proofs.Order.{places_total, below_turned, below_tied, AllStandAbove-lower, AllStandAbove-right, AllStandBelow-left, AllStandBelow-right, below_by_last, AllStandBelow-higher, AllStandBelow-tied, before_row, StandsRising-left, StandsRising-right, placed_once_rises, standing_at-above, standing_from-above, standing_at-middle, standing_from-middle, placed_once-middle}
 use Rattle.table_store.proofs.Place.{around, some_row}
 
@@ -267,9 +269,16 @@ module _ (place : Record → Place) where
   pub made_alone : (xs : List (List Record)) (i : ℕ) (old new : List Record) (op : Op) (row : Record) → i < length xs → old ≡ get_or xs i old → new ≡ placed_once place old op row → (d : List Record) → new ≡ placed_once place (get_or xs i d) op row
   made_alone xs i old new op row h is made d = made ∙ ap (λ x. placed_once place x op row) (is ∙ same_item xs i old d h)
 
-  pub behind_ok : {A E : Type 0} (xs zs ys : List (List Record)) (i : ℕ) (op : Op) (row : Record) (r : Result A E) → zs ≡ xs → i + 1 ≡ length xs → ((d : List Record) → placed_once place (get_or xs i d) op row ≡ get_or xs i d ++ row ∷ []) → OnOk r (rows_of ys ≡ rows_of zs ++ row ∷ []) → (AllFilled zs → AllFilled ys) → OnOk r (ChangesNode place xs i op row ys)
-  behind_ok xs zs ys i op row (Ok a) same h made ok filled = changed_behind xs ys i op row h made (ok ∙ ap (λ l. rows_of l ++ row ∷ []) same) (λ p. filled (subst AllFilled (sym same) p))
-  behind_ok xs zs ys i op row (Err e) same h made ok filled = tt
+  pub behind_ok : {A E : Type 0} (xs ys : List (List Record)) (i : ℕ) (op : Op) (row : Record) (r : Result A E) → i + 1 ≡ length xs → ((d : List Record) → placed_once place (get_or xs i d) op row ≡ get_or xs i d ++ row ∷ []) → OnOk r (rows_of ys ≡ rows_of xs ++ row ∷ []) → (AllFilled xs → AllFilled ys) → OnOk r (ChangesNode place xs i op row ys)
+  behind_ok xs ys i op row (Ok a) h made ok filled = changed_behind xs ys i op row h made ok filled
+  behind_ok xs ys i op row (Err e) h made ok filled = tt
+
+  -- a node in whose place its parts stand after a change
+  pub parts_ok : {A E N : Type 0} (rows_in : N → List Record) (parts : Parts N) (xs zs ys : List (List Record)) (i : ℕ) (node : List Record) (op : Op) (row : Record) (r : Result A E) → zs ≡ xs → i < length xs → node ≡ get_or xs i node → AreParts rows_in (placed_once place node op row) parts → OnOk r ((rows : List Record) → AreParts rows_in rows parts → ReplacesNode zs i rows ys) → OnOk r (ChangesNode place xs i op row ys)
+  parts_ok rows_in parts xs zs ys i node op row (Ok a) same h is made ok = record {
+    replaces = λ d. rw (← same_item xs i node d h, ← is, ← same) (ok (placed_once place node op row) made);
+  }
+  parts_ok rows_in parts xs zs ys i node op row (Err e) same h is made ok = tt
 
   module _ (op : Op) (row : Record) (xs ys : List (List Record)) (n at : ℕ) (count : IsNodeCount place (place row) xs n) (last : at ≡ n - 1) (h : 0 < length xs) (shelf : AreNodes place xs) where
     changed_rows_of : ChangesNode place xs at op row ys → rows_of ys ≡ placed_once place (rows_of xs) op row

@@ -1,8 +1,11 @@
 //! Nodes of a tree: pages, and branches of them.
 
-ghost use Rattle.std.specs.Prelude.{◌≡◌, ◌↔◌, ◌<◌, ◌==◌, IfOk, OnErr, IsTrue, IsFalse, length, vec_len};
+ghost use Rattle.std.specs.Prelude.{◌≡◌, ◌↔◌, ◌<◌, ◌==◌, List, [], ◌∷◌, ◌++◌, IfOk, OnOk, OnErr, IsTrue, IsFalse, length, vec_len};
+ghost use Rattle.db_records.specs.declared.record.Record.{Record};
+ghost use Rattle.db_records.specs.declared.change.Op.TheVariants.{Put};
 ghost use Rattle.table_store.specs.Places.{AllStandBelow, first_order as first_order_of, placed_once};
-ghost use Rattle.table_store.specs.Nodes.{rows_of, AreNodes, ChangesNode, IsNodeCount};
+ghost use Rattle.table_store.specs.Nodes.{rows_of, AllFilled, AreNodes, ChangesNode, IsNodeCount, ReplacesNode};
+ghost use Rattle.table_store.specs.Parts.{AreParts};
 ghost use Rattle.table_store.specs.SearchKey.{sought_place};
 
 use crate::row_order::RowOrder;
@@ -15,13 +18,17 @@ use std::marker::Model;
 use std::sync::Arc;
 
 /// Rows in an order, of which a tree is made: a page, or a branch of pages.
-pub(crate) trait Node: Drop {
+pub(crate) trait Node: Sized + Drop {
     ghost use Rattle.std.specs.Prelude.{List};
     ghost use Rattle.db_records.specs.declared.record.Record.{Record};
 
     type Order: RowOrder;
 
     ghost rows: { Self → List Record };
+
+    /// A node of one row.
+    fn of_row(alloc: Global, row: &SharedRow) -> Result<Self, AllocError>
+        ensures { IfOk result (λ node. rows node ≡ row.now ∷ []) };
 
     /// The order of the first row and what is looked for, and Less where there is no row.
     fn first_order(&self, sought: SearchKey<'_>) -> Ordering
@@ -40,6 +47,22 @@ pub(crate) trait Node: Drop {
         ensures done { IfOk result (λ done. IsTrue done → rows self.new ≡ placed_once Self.Order.place (rows self.old) op row.now) }
         ensures left { IfOk result (λ done. IsFalse done → rows self.new ≡ rows self.old) }
         ensures err { OnErr result (rows self.new ≡ rows self.old) };
+
+    /// Whether the node is full, and a change puts a row behind all of its rows.
+    fn ends_before(&self, op: Op, row: &SharedRow) -> bool
+        ensures { IsTrue result → (op ≡ Put) × AllStandBelow Self.Order.place (Self.Order.place row.now) (rows self.now) };
+
+    /// What a change makes of the node, which stays as it is.
+    fn changed(&self, alloc: Global, op: Op, row: &SharedRow) -> Result<Parts<Self>, AllocError>
+        ensures { IfOk result (λ parts. AreParts rows (placed_once Self.Order.place (rows self.now) op row.now) parts) };
+}
+
+/// The nodes that a change makes of one: none where no row is left, and two where it has too many.
+#[derive(Drop)]
+pub(crate) enum Parts<N: Drop> {
+    None,
+    One(N),
+    Two(N, N),
 }
 
 /// A node that the lists of several versions hold. It changes only while one list alone holds it.
@@ -142,9 +165,83 @@ pub(crate) fn end_below<N: Node>(nodes: &[SharedNode<N>], row: &Record) -> bool
     }
 }
 
+/// Makes a change: in the node of its row, where that isn't shared.
+pub(crate) fn change_nodes<N: Node>(
+    list: &mut Vec<SharedNode<N>>,
+    alloc: Global,
+    op: Op,
+    row: &SharedRow,
+) -> Result<(), AllocError>
+    requires { AreNodes N.Order.place list.old.items }
+    ensures ok { OnOk result (rows_of list.new.items ≡ placed_once N.Order.place (rows_of list.old.items) op row.now) }
+    ensures err { OnErr result (list.new.items ≡ list.old.items) }
+    ensures nodes { AreNodes N.Order.place list.new.items }
+{
+    if list.is_empty() {
+        return begin_nodes(list, alloc, op, row);
+    }
+    let count = nodes_up_to_row(list, row.row());
+    change_node(list, alloc, count.saturating_sub(1), op, row)
+}
+
+/// Makes the first node.
+fn begin_nodes<N: Node>(
+    list: &mut Vec<SharedNode<N>>,
+    alloc: Global,
+    op: Op,
+    row: &SharedRow,
+) -> Result<(), AllocError>
+    requires { list.old.items ≡ [] }
+    ensures ok { OnOk result (rows_of list.new.items ≡ placed_once N.Order.place [] op row.now) }
+    ensures err { OnErr result (list.new.items ≡ list.old.items) }
+    ensures nodes { AreNodes N.Order.place list.new.items }
+{
+    if op == Op::Remove {
+        return Ok(());
+    }
+    push_row(list, alloc, row)
+}
+
+/// Puts a node of one row behind the others.
+pub(crate) fn push_row<N: Node>(
+    list: &mut Vec<SharedNode<N>>,
+    alloc: Global,
+    row: &SharedRow,
+) -> Result<(), AllocError>
+    ensures ok { OnOk result (rows_of list.new.items ≡ rows_of list.old.items ++ row.now ∷ []) }
+    ensures filled { AllFilled list.old.items → AllFilled list.new.items }
+    ensures err { OnErr result (list.new.items ≡ list.old.items) }
+{
+    list.push(SharedNode::new(alloc, N::of_row(alloc, row)?)?)?;
+    Ok(())
+}
+
+/// Makes a change to a node: behind it where it is full and the last, in place where that can be, and else
+/// with copies.
+fn change_node<N: Node>(
+    list: &mut Vec<SharedNode<N>>,
+    alloc: Global,
+    at: usize,
+    op: Op,
+    row: &SharedRow,
+) -> Result<(), AllocError>
+    requires { at < vec_len list.old }
+    ensures ok { OnOk result (ChangesNode N.Order.place list.old.items at op row.now list.new.items) }
+    ensures err { OnErr result (list.new.items ≡ list.old.items) }
+{
+    if at + 1 == list.len() && list[at].node().ends_before(op, row) {
+        return push_row(list, alloc, row);
+    }
+    if change_at(list, alloc, at, op, row)? {
+        return Ok(());
+    }
+    let parts = list[at].node().changed(alloc, op, row)?;
+    replace_node(list, alloc, at, parts)
+}
+
 /// Makes a change in the node at a place, if that can be, and tells whether it did. A node that has no
 /// rows then goes.
-pub(crate) fn change_at<N: Node>(
+fn change_at<N: Node>(
     list: &mut Vec<SharedNode<N>>,
     alloc: Global,
     at: usize,
@@ -163,4 +260,31 @@ pub(crate) fn change_at<N: Node>(
         list.remove(at);
     }
     Ok(true)
+}
+
+/// Puts what a change made of a node in its place.
+fn replace_node<N: Node>(
+    list: &mut Vec<SharedNode<N>>,
+    alloc: Global,
+    at: usize,
+    parts: Parts<N>,
+) -> Result<(), AllocError>
+    requires { at < vec_len list.old }
+    ensures ok { OnOk result ((rows : List Record) → AreParts N.rows rows parts → ReplacesNode list.old.items at rows list.new.items) }
+    ensures err { OnErr result (list.new.items ≡ list.old.items) }
+{
+    match parts {
+        Parts::None => {
+            list.remove(at);
+        }
+        Parts::One(node) => {
+            list[at] = SharedNode::new(alloc, node)?;
+        }
+        Parts::Two(lower, upper) => {
+            let lower = SharedNode::new(alloc, lower)?;
+            list.insert(at + 1, SharedNode::new(alloc, upper)?)?;
+            list[at] = lower;
+        }
+    }
+    Ok(())
 }

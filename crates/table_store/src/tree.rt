@@ -1,17 +1,14 @@
 //! The tree of a table: branches, one after another.
 
-ghost use Rattle.std.specs.Prelude.{◌≡◌, ◌↔◌, ◌<◌, [], IfOk, IsTrue, OnOk, OnErr, IsFalse, vec_len};
+ghost use Rattle.std.specs.Prelude.{◌≡◌, ◌↔◌, [], IfOk, IsTrue, OnOk, OnErr};
 ghost use Rattle.std.specs.Option.{option_copied};
 ghost use Rattle.db_records.specs.Record.{key_of};
-ghost use Rattle.table_store.specs.Places.{AllStandBelow, StandsRising, first_order, placed_once, standing_at, standing_from};
+ghost use Rattle.table_store.specs.Places.{StandsRising, placed_once, standing_at, standing_from};
 ghost use Rattle.table_store.specs.Rows.{FitsAt, row_at};
-ghost use Rattle.table_store.specs.Nodes.{rows_of, AreNodes, ReplacesNode, ChangesNode};
 ghost use Rattle.table_store.specs.SearchKey.{sought_place};
 
 use crate::branch::Branch;
-use crate::node::{
-    Node, SharedNode, change_at, end_below, nodes_up_to, nodes_up_to_row, share_nodes,
-};
+use crate::node::{SharedNode, change_nodes, end_below, nodes_up_to, share_nodes};
 use crate::row_order::{ByKey, RowOrder};
 use crate::search_key::SearchKey;
 use crate::shared_row::SharedRow;
@@ -104,11 +101,7 @@ impl<O: RowOrder> Tree<O> {
         ensures ok { OnOk result (self.new ≡ placed_once O.place self.old op row.now) }
         ensures err { OnErr result (self.new ≡ self.old) }
     {
-        if self.list.is_empty() {
-            return begin_tree(&mut self.list, alloc, op, row);
-        }
-        let count = nodes_up_to_row(&self.list, row.row());
-        change_branch(&mut self.list, alloc, count.saturating_sub(1), op, row)
+        change_nodes(&mut self.list, alloc, op, row)
     }
 }
 
@@ -129,72 +122,4 @@ pub(crate) fn fits(tree: &Tree<ByKey>, change: &Change) -> bool
             None => false,
         },
     }
-}
-
-/// Makes the first branch.
-fn begin_tree<O: RowOrder>(
-    list: &mut Vec<SharedNode<Branch<O>>>,
-    alloc: Global,
-    op: Op,
-    row: &SharedRow,
-) -> Result<(), AllocError>
-    requires { list.old.items ≡ [] }
-    ensures ok { OnOk result (rows_of list.new.items ≡ placed_once O.place [] op row.now) }
-    ensures err { OnErr result (list.new.items ≡ list.old.items) }
-    ensures nodes { AreNodes O.place list.new.items }
-{
-    let mut branch = Branch::empty(alloc);
-    branch.change(alloc, op, row)?;
-    if !branch.is_empty() {
-        list.push(SharedNode::new(alloc, branch)?)?;
-    }
-    Ok(())
-}
-
-/// Makes a change to a branch: in place where that can be, and else to one that shares its pages.
-fn change_branch<O: RowOrder>(
-    list: &mut Vec<SharedNode<Branch<O>>>,
-    alloc: Global,
-    at: usize,
-    op: Op,
-    row: &SharedRow,
-) -> Result<(), AllocError>
-    requires { at < vec_len list.old }
-    ensures ok { OnOk result (ChangesNode O.place list.old.items at op row.now list.new.items) }
-    ensures err { OnErr result (list.new.items ≡ list.old.items) }
-{
-    if change_at(list, alloc, at, op, row)? {
-        return Ok(());
-    }
-    let branch = list[at].node().changed(alloc, op, row)?;
-    replace_branch(list, alloc, at, branch)
-}
-
-/// Puts a branch in the place of another: none where it has no pages, and two where it has many.
-fn replace_branch<O: RowOrder>(
-    list: &mut Vec<SharedNode<Branch<O>>>,
-    alloc: Global,
-    at: usize,
-    branch: Branch<O>,
-) -> Result<(), AllocError>
-    requires { at < vec_len list.old }
-    ensures ok { OnOk result (ReplacesNode list.old.items at branch list.new.items) }
-    ensures err { OnErr result (list.new.items ≡ list.old.items) }
-{
-    if branch.is_empty() {
-        list.remove(at);
-        return Ok(());
-    }
-    let (lower, upper) = branch.parts()?;
-    match upper {
-        None => {
-            list[at] = SharedNode::new(alloc, lower)?;
-        }
-        Some(upper) => {
-            let lower = SharedNode::new(alloc, lower)?;
-            list.insert(at + 1, SharedNode::new(alloc, upper)?)?;
-            list[at] = lower;
-        }
-    }
-    Ok(())
 }

@@ -4,7 +4,7 @@ use denote.Enum.Bare.{differs_true, differs_false}
 use Rattle.db_records.specs.contracts.change.Op.{the_type}
 use Rattle.db_records.specs.declared.record.Record.{Record}
 use Rattle.table_store.specs.Places.{AllStandBelow}
-use Rattle.table_store.proofs.page.Page.ends_before.Goals as goal
+use Rattle.table_store.proofs.page.PageNode.ends_before.Goals as goal
 
 pub returns-then-ne : goal.returns-then-ne
 returns-then-ne g c = ((λ e. absurd (false≢true e)), (λ all. absurd (differs_true the_type _ _ (sym c.if-ne.ensures) all.0)))
