@@ -33,7 +33,8 @@ fn refusal_of(
     row: Option<&ChangeRecord>,
     holds: bool,
 ) -> Result<Option<Row>, AllocError>
-    ensures { IfOk result (λ refused. refused ≡ option_map refusal_row (delete_told caller.now change holds (option_map records.Change (option_copied row.entry)))) }
+    ensures { IfOk result (λ refused. refused ≡
+        option_map refusal_row (delete_told caller.now change holds (option_map records.Change (option_copied row.entry)))) }
 {
     match row {
         Some(row) => {

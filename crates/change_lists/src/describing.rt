@@ -121,7 +121,8 @@ fn push_revisions(
     fields: &mut Sequence<Field>,
     rows: &[&RevRecord],
 ) -> Result<(), AllocError>
-    ensures { OnOk result (fields.new ≡ fields.old ++ flat_map fields_at (enumerate_from 0 (map (λ row. row.now) rows.now))) }
+    ensures { OnOk result (fields.new ≡ fields.old ++
+        flat_map fields_at (enumerate_from 0 (map (λ row. row.now) rows.now))) }
 {
     let mut rest = rows;
     let mut index = 0;
@@ -135,7 +136,8 @@ fn push_revisions(
 
 /// The row of a submitted change, by its row in the table, with the revisions of these rows.
 fn landed_row(alloc: Global, row: &ChangeRecord, rows: &[&RevRecord]) -> Result<Row, AllocError>
-    ensures { IfOk result (λ told. told ≡ row_with (fields_of_record row.now ++ flat_map fields_at (enumerate_from 0 (map (λ row. row.now) rows.now)))) }
+    ensures { IfOk result (λ told. told ≡
+        row_with (fields_of_record row.now ++ flat_map fields_at (enumerate_from 0 (map (λ row. row.now) rows.now)))) }
 {
     let mut fields = record_fields(alloc, row)?;
     push_revisions(alloc, &mut fields, rows)?;

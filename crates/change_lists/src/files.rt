@@ -53,7 +53,8 @@ fn listable<'a>(
 fn rows_tell_made(tables: &Tables)
     ensures made { (d : List Deed) (caller : Caller) (asker : _) → IsSound d → IsAsker d caller asker →
         HasRows (rows_of tables.now) d table_ids.Rev → (n : ℕ) →
-        map seen (filter_map (listable_in asker) (rows_made n (rows_of tables.now table_ids.Rev))) ≡ map numbered_record (landed_files d caller n) }
+        map seen (filter_map (listable_in asker) (rows_made n (rows_of tables.now table_ids.Rev))) ≡
+        map numbered_record (landed_files d caller n) }
     ensures listed { (d : List Deed) (caller : Caller) (asker : _) → IsSound d → IsAsker d caller asker →
         HasRows (rows_of tables.now) d table_ids.Rev → (n : ℕ) →
         list_any (is_listable_row asker) (rows_made n (rows_of tables.now table_ids.Rev)) ≡ is_listable d caller n }

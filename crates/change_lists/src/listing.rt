@@ -58,7 +58,8 @@ fn name_passes(wanted: &Option<Name>, text: &[u8]) -> bool
 
 /// Whether a change is of the status, the user and the client that are asked for.
 fn passes(filter: &Filter, row: &ChangeRecord) -> bool
-    ensures { result ≡ (model.passes filter.now.status.now row.now.status && model.passes filter.now.user.now row.now.user && model.passes filter.now.client.now row.now.client) }
+    ensures { result ≡ (model.passes filter.now.status.now row.now.status &&
+        model.passes filter.now.user.now row.now.user && model.passes filter.now.client.now row.now.client) }
 {
     text_passes(filter.status, row.status.as_bytes())
         && name_passes(filter.user, row.user.as_bytes())
@@ -80,7 +81,8 @@ fn listed_row(alloc: Global, row: &ChangeRecord) -> Result<Row, AllocError>
 
 /// The row of a change by its row in the table, where the filter passes it.
 fn tell_row(alloc: Global, filter: &Filter, row: &ChangeRecord) -> Result<Option<Row>, AllocError>
-    ensures { IfOk result (λ told. told ≡ record_asked filter.now.status.now filter.now.user.now filter.now.client.now row.now) }
+    ensures { IfOk result (λ told. told ≡
+        record_asked filter.now.status.now filter.now.user.now filter.now.client.now row.now) }
 {
     if !passes(filter, row) {
         return Ok(None);
@@ -258,7 +260,8 @@ fn changes_told(
     files: &[FileArgument],
 ) -> Result<Sequence<Row>, AllocError>
     ensures { IfOk result (λ rows. (d : List Deed) → ShownReads caller.now asker.now Submitted (rows_of tables.now) d →
-        rows ≡ flat_map (model.missing d caller.now) files.now ++ map model.change_row (changes_listed d caller.now most status.now user.now client.now files.now)) }
+        rows ≡ flat_map (model.missing d caller.now) files.now ++
+        map model.change_row (changes_listed d caller.now most status.now user.now client.now files.now)) }
 {
     let filter = Filter {
         status,

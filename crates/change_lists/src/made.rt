@@ -171,7 +171,8 @@ fn push_argument(
     ensures rows { OnOk result ((d : List Deed) → ShownReads caller.now asker.now Submitted (rows_of tables.now) d →
         rows.new ≡ rows.old ++ missing d caller.now argument.now) }
     ensures made { OnOk result ((d : List Deed) → ShownReads caller.now asker.now Submitted (rows_of tables.now) d →
-        made.new.items ≡ made.old.items ++ made_of d caller.now argument.now (not_in taken.old (named false d caller.now (submitted d) argument.now))) }
+        made.new.items ≡ made.old.items ++
+        made_of d caller.now argument.now (not_in taken.old (named false d caller.now (submitted d) argument.now))) }
     ensures taken { OnOk result ((d : List Deed) → ShownReads caller.now asker.now Submitted (rows_of tables.now) d →
         (path : List ℕ) →
         is_in taken.new path ≡ is_in (taken.old ++ named false d caller.now (submitted d) argument.now) path) }

@@ -45,7 +45,8 @@ fn push_moved(
     change: u32,
     row: Option<&WorkingRecord>,
 ) -> Result<(), AllocError>
-    ensures { OnOk result (openings.new ≡ openings.old ++ option_to_list (option_map (moved_row client.now path.now change) (option_copied row.entry))) }
+    ensures { OnOk result (openings.new ≡ openings.old ++
+        option_to_list (option_map (moved_row client.now path.now change) (option_copied row.entry))) }
 {
     if let Some(row) = row {
         openings.push(reopened_in(alloc, client, path, row, Some(change), &None)?)?;
@@ -123,7 +124,8 @@ fn pend(
     change: u32,
     openings: Sequence<Opening>,
 ) -> Result<Step, AllocError>
-    ensures { IfOk result (λ step. step ≡ does (dones.Pend (pending_deed request.now text change) ∷ map dones.Open openings) (row_of_saved change)) }
+    ensures { IfOk result (λ step. step ≡
+        does (dones.Pend (pending_deed request.now text change) ∷ map dones.Open openings) (row_of_saved change)) }
 {
     let row = RowBuilder::new(alloc).number(b"Change", u64::from(change))?;
     let row = row.text(b"action", b"saved")?;
@@ -232,7 +234,8 @@ fn unopened(
     path: &DepotPath,
     row: Option<&WorkingRecord>,
 ) -> Result<Option<Row>, AllocError>
-    ensures { IfOk result (λ refused. refused ≡ option_map refusal_row (not_open_in path.now (option_copied row.entry))) }
+    ensures { IfOk result (λ refused. refused ≡
+        option_map refusal_row (not_open_in path.now (option_copied row.entry))) }
 {
     match row {
         Some(_) => Ok(None),

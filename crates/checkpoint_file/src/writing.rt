@@ -69,8 +69,10 @@ pub fn write_generation<D: Disk>(
         StandFor (of_generation (was.generation + 1) d) image archive) }
 
     // The files of the generations before stay as they are, and so do this one's, at every moment.
-    ensures older { Follows (SameBefore (3 + 2 * generation_of_journal journal.old)) (D.says.may_leave (disk_of journal.old)) (D.says.may_leave (disk_of journal.new)) }
-    ensures any_older { LeavesOnly D.says (disk_of journal.old) (disk_of journal.new) (After (SameBefore (3 + 2 * generation_of_journal journal.old)) (D.says.may_leave (disk_of journal.old))) }
+    ensures older { Follows (SameBefore (3 + 2 * generation_of_journal journal.old))
+        (D.says.may_leave (disk_of journal.old)) (D.says.may_leave (disk_of journal.new)) }
+    ensures any_older { LeavesOnly D.says (disk_of journal.old) (disk_of journal.new)
+        (After (SameBefore (3 + 2 * generation_of_journal journal.old)) (D.says.may_leave (disk_of journal.old))) }
     ensures keeps { (older : List (List (List ℕ))) → KeepsOlder D.says journal.old older → IsErr result →
         KeepsOlder D.says journal.new older }
     // The journal that was the newest is one of them then.

@@ -117,7 +117,8 @@ fn first_unknown<'a>(
     files: &'a [FileArgument],
 ) -> Result<Option<&'a Name>, AllocError>
     ensures { IfOk result (λ name. (d : List Deed) → HasRows (rows_of tables.now) d table_ids.Domain →
-        option_map (λ n. refusals.NoSuchLabel n) (option_copied name) ≡ first_unknown_in (flat_map (λ (a : AnyFile). unknown_in d a.spec.wanted) files.now)) }
+        option_map (λ n. refusals.NoSuchLabel n) (option_copied name) ≡
+        first_unknown_in (flat_map (λ (a : AnyFile). unknown_in d a.spec.wanted) files.now)) }
 {
     let mut rest = files;
     while let [file, after @ ..] = rest {

@@ -33,7 +33,8 @@ fn refusal_of(
     change: u32,
     row: Option<&ChangeRecord>,
 ) -> Result<Option<Row>, AllocError>
-    ensures { IfOk result (λ told. told ≡ option_map refusal_row (change_told caller.now change (option_map Record.Change (option_copied row.entry)))) }
+    ensures { IfOk result (λ told. told ≡
+        option_map refusal_row (change_told caller.now change (option_map Record.Change (option_copied row.entry)))) }
 {
     match row {
         Some(row) => {

@@ -18,7 +18,8 @@ use wire_text::{GiveFault, give_all};
 
 /// Gives the line of files of a node that weren't opened.
 fn give_node_shut<K: Sink>(out: &mut K, fault: OpenFault) -> Result<(), GiveFault>
-    ensures given { GivesAll (K.says.given out.old) (K.says.given out.new) (codes "node " ++ cause_line (cause_by fault)) result }
+    ensures given { GivesAll (K.says.given out.old) (K.says.given out.new)
+        (codes "node " ++ cause_line (cause_by fault)) result }
     ensures cause { HasCause (K.says.faults out.old) (K.says.faults out.new) result }
 {
     match give_all(out, b"node ") {
@@ -38,7 +39,8 @@ fn give_bad<K: Sink>(out: &mut K, place: u64) -> Result<(), GiveFault>
 
 /// Gives the line of a departure.
 fn give_apart<K: Sink>(out: &mut K, departure: Departure) -> Result<(), GiveFault>
-    ensures given { GivesAll (K.says.given out.old) (K.says.given out.new) (apart_line departure.generation departure.place) result }
+    ensures given { GivesAll (K.says.given out.old) (K.says.given out.new)
+        (apart_line departure.generation departure.place) result }
     ensures cause { HasCause (K.says.faults out.old) (K.says.faults out.new) result }
 {
     let mut generation = Buffer::new();
@@ -75,7 +77,8 @@ pub(crate) fn give_end<K: Sink>(out: &mut K, cause: ChainCause) -> Result<(), Gi
 
 /// Gives the three lines of a node that has all. It takes no memory.
 pub(crate) fn give_done<K: Sink>(out: &mut K, figures: Figures) -> Result<(), GiveFault>
-    ensures given { GivesAll (K.says.given out.old) (K.says.given out.new) (done_lines figures.generation figures.changes figures.verified) result }
+    ensures given { GivesAll (K.says.given out.old) (K.says.given out.new)
+        (done_lines figures.generation figures.changes figures.verified) result }
     ensures cause { HasCause (K.says.faults out.old) (K.says.faults out.new) result }
 {
     let mut generation = Buffer::new();

@@ -96,7 +96,8 @@ pub fn chain_top<D: Disk, K: Sink>(
     node: Pair<D>,
     out: &mut K,
 ) -> ChainEnded<D>
-    ensures promise { Chains D.says K.says (words_of words.now) (record { up = up; node = node; out = out.old }) (record { out = out.new; ended = result }) }
+    ensures promise { Chains D.says K.says (words_of words.now) (record { up = up; node = node; out = out.old })
+        (record { out = out.new; ended = result }) }
 {
     if words.len() > 1 {
         return end_chain(ChainCause::Usage, out, up, node);

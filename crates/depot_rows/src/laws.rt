@@ -47,7 +47,8 @@ pub fn deeds_do_to_rows_what_they_do_to_depots()
 
 /// The rows after deeds are their effects in turn.
 pub fn deeds_do_so_in_turn()
-    ensures rows { (table : TableId) (before : Rows) (d : List model.Deed) (dones : List Deed) (deeds : List model.Deed) →
+    ensures rows { (table : TableId) (before : Rows) (d : List model.Deed) (dones : List Deed)
+        (deeds : List model.Deed) →
         AreRowsIn before d table → NotBoth d → Follow d dones deeds →
         AreRowsIn (effects dones before) (after d deeds) table }
     ensures apart { (d : List model.Deed) (dones : List Deed) (deeds : List model.Deed) →

@@ -14,7 +14,8 @@ use wire_text::{GiveFault, give_all};
 
 /// Gives pieces one after another. It takes no memory.
 pub fn give_pieces<K: Sink>(out: &mut K, pieces: &[&[u8]]) -> Result<(), GiveFault>
-    ensures given { GivesAll (K.says.given out.old) (K.says.given out.new) (flat_map (λ piece. piece.now) pieces.now) result }
+    ensures given { GivesAll (K.says.given out.old) (K.says.given out.new)
+        (flat_map (λ piece. piece.now) pieces.now) result }
     ensures cause { HasCause (K.says.faults out.old) (K.says.faults out.new) result }
 {
     for piece in pieces {
@@ -38,7 +39,8 @@ fn disk_word(disk: DepotDisk) -> &'static [u8]
 
 /// Gives the line of a damage in these words.
 fn give_words<K: Sink>(out: &mut K, disk: &[u8], file: &[u8], place: &[u8]) -> Result<(), GiveFault>
-    ensures given { GivesAll (K.says.given out.old) (K.says.given out.new) (damage_words disk.now file.now place.now) result }
+    ensures given { GivesAll (K.says.given out.old) (K.says.given out.new)
+        (damage_words disk.now file.now place.now) result }
     ensures cause { HasCause (K.says.faults out.old) (K.says.faults out.new) result }
 {
     give_pieces(out, &[b"damaged ", disk, b" ", file, b" ", place, b"\n"])
@@ -66,7 +68,8 @@ fn give_damage<K: Sink>(
 
 /// Gives the line of a generation in these digits.
 fn give_digits<K: Sink>(out: &mut K, digits: &[u8]) -> Result<(), GiveFault>
-    ensures given { GivesAll (K.says.given out.old) (K.says.given out.new) (codes "journal " ++ (digits.now ++ codes "\n")) result }
+    ensures given { GivesAll (K.says.given out.old) (K.says.given out.new)
+        (codes "journal " ++ (digits.now ++ codes "\n")) result }
     ensures cause { HasCause (K.says.faults out.old) (K.says.faults out.new) result }
 {
     give_pieces(out, &[b"journal ", digits, b"\n"])

@@ -57,7 +57,8 @@ fn rev_key(alloc: Global, path: &DepotPath, rev: u32) -> Result<Key, AllocError>
 
 /// The content of a row of a revision that has one, as it stands in the archive.
 fn stored_in(row: &RevRecord) -> Result<Stored, AllocError>
-    ensures { IfOk result (λ stored. stored ≡ record { digest = row.now.digest; spot = record { at = row.now.at; length = row.now.length } }) }
+    ensures { IfOk result (λ stored. stored ≡
+        record { digest = row.now.digest; spot = record { at = row.now.at; length = row.now.length } }) }
 {
     let digest = row.digest.clone()?;
     let spot = Spot {

@@ -46,7 +46,8 @@ fn first_barring(
     client: &Name,
     exclusive: bool,
 ) -> Result<Option<Name>, AllocError>
-    ensures { IfOk result (λ name. name ≡ barring_in client.now exclusive (filter (has_row range.now) (rows_of tables.now (range_table range.now)))) }
+    ensures { IfOk result (λ name. name ≡
+        barring_in client.now exclusive (filter (has_row range.now) (rows_of tables.now (range_table range.now)))) }
 {
     for row in rows_in(alloc, tables, range)? {
         if let Record::Working(row) = row

@@ -30,7 +30,8 @@ pub fn openings_of(alloc: Global, path: &DepotPath) -> Result<KeyRange, AllocErr
 pub fn rows_are_openings(tables: &Tables)
     ensures { (d : List Deed) (path : List ℕ) → path_of (printed path) ≡ Ok path →
         HasRows (rows_of tables.now) d table_ids.Working →
-        filter (has_row (KeyRange.OpenedFiles (printed path))) (rows_of tables.now table_ids.Working) ≡ map (working_record d) (openings d path) }
+        filter (has_row (KeyRange.OpenedFiles (printed path))) (rows_of tables.now table_ids.Working) ≡
+        map (working_record d) (openings d path) }
 {
     let version = tables.version(TableId::Working);
     // the rows of a version are of its table, their keys rising

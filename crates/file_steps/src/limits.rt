@@ -41,7 +41,8 @@ fn changed_path(deed: &Deed) -> Option<&DepotPath>
 /// from the last on.
 fn place_for(paths: &[DepotPath], path: &DepotPath) -> Option<usize>
     ensures within { IfSome result (λ at. at ≤ length paths.now) }
-    ensures some { IfSome result (λ at. reverse (insert paths.now at path.now) ≡ path_inserted path.now (reverse paths.now)) }
+    ensures some { IfSome result (λ at. reverse (insert paths.now at path.now) ≡
+        path_inserted path.now (reverse paths.now)) }
     ensures none { result ≡ None → reverse paths.now ≡ path_inserted path.now (reverse paths.now) }
 {
     let mut at = paths.len();

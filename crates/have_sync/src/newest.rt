@@ -58,7 +58,8 @@ impl<'a> Places<'a> {
     ) -> Result<Sequence<DepotPath>, AllocError>
         ensures paths { IfOk result (λ paths. (d : List Deed) →
             ShownReads set.now.caller.now set.now.asker.now set.now.listing.now (rows_of tables.now) d →
-            filter (names_file false d set.now.caller.now argument.now.spec) paths ≡ filter (names_file false d set.now.caller.now argument.now.spec) (files_of set.now.listing.now d)) }
+            filter (names_file false d set.now.caller.now argument.now.spec) paths ≡
+            filter (names_file false d set.now.caller.now argument.now.spec) (files_of set.now.listing.now d)) }
         ensures places { IfOk result (λ _. AreOf (rows_of tables.now) self.old → AreOf (rows_of tables.now) self.new) }
     {
         let paths = self.heads.find(alloc, tables, set, argument)?;

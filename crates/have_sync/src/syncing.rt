@@ -129,7 +129,8 @@ fn reaches(row: Option<&ResolveRecord>, rev: u32) -> bool
 
 /// The resolve of a file from itself.
 fn owing(client: &Name, path: &DepotPath, first: u32, last: u32) -> Result<Owing, AllocError>
-    ensures { IfOk result (λ owing. owing ≡ record { client = client.now; path = path.now; from = path.now; first = first; last = last }) }
+    ensures { IfOk result (λ owing. owing ≡
+        record { client = client.now; path = path.now; from = path.now; first = first; last = last }) }
 {
     let client = client.clone()?;
     let from = path.clone()?;

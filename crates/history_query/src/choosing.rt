@@ -138,7 +138,8 @@ fn candidates_of<'t>(
 ) -> Result<Sequence<DepotPath>, AllocError>
     ensures paths { IfOk result (λ paths. (d : List Deed) →
         ShownReads shown.now.caller.now shown.now.asker.now shown.now.listing.now (rows_of tables.now) d →
-        filter (is_listed shown.now.caller.now d argument.now) paths ≡ filter (is_listed shown.now.caller.now d argument.now) (files_of shown.now.listing.now d)) }
+        filter (is_listed shown.now.caller.now d argument.now) paths ≡
+        filter (is_listed shown.now.caller.now d argument.now) (files_of shown.now.listing.now d)) }
     ensures heads { IfOk result (λ _. AreHeads (rows_of tables.now table_ids.Rev) heads.old →
         AreHeads (rows_of tables.now table_ids.Rev) heads.new) }
 {

@@ -144,7 +144,8 @@ fn add_seen(
     pattern: &Pattern,
     seen: Option<DepotPath>,
 ) -> Result<(), AllocError>
-    ensures { OnOk result (set.new ≡ all_fitting pattern.now (flat_map model.directories (option_to_list seen)) set.old) }
+    ensures { OnOk result (set.new ≡
+        all_fitting pattern.now (flat_map model.directories (option_to_list seen)) set.old) }
 {
     if let Some(seen) = seen {
         add_directories(alloc, set, pattern, &seen)?;

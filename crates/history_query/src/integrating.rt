@@ -117,7 +117,8 @@ fn rows_listed(
     asker: &Asker,
     range: &KeyRange,
 ) -> Result<Sequence<Row>, AllocError>
-    ensures { IfOk result (λ rows. rows ≡ rows_told_in asker.now (filter (has_row range.now) (rows_of tables.now (range_table range.now)))) }
+    ensures { IfOk result (λ rows. rows ≡
+        rows_told_in asker.now (filter (has_row range.now) (rows_of tables.now (range_table range.now)))) }
 {
     let mut rows = Sequence::new(alloc);
     for row in rows_in(alloc, tables, range)? {

@@ -108,7 +108,8 @@ fn file_of(alloc: Global, row: &Record) -> Result<Option<DepotPath>, AllocError>
 
 /// The first submitted file from a text on.
 fn file_from(alloc: Global, tables: &Tables, from: &Text) -> Result<Option<DepotPath>, AllocError>
-    ensures { IfOk result (λ path. path ≡ slice_get (files_from from.now (listed Submitted (rows_of tables.now table_ids.Rev))) 0) }
+    ensures { IfOk result (λ path. path ≡
+        slice_get (files_from from.now (listed Submitted (rows_of tables.now table_ids.Rev))) 0) }
 {
     let key = Key::Rev {
         path: Text::from_bytes(alloc, from.as_bytes())?,
@@ -129,7 +130,8 @@ fn begun_from(
     from: &Text,
     beginning: &Text,
 ) -> Result<Option<DepotPath>, AllocError>
-    ensures { IfOk result (λ path. path ≡ first_begun beginning.now (files_from from.now (listed Submitted (rows_of tables.now table_ids.Rev)))) }
+    ensures { IfOk result (λ path. path ≡
+        first_begun beginning.now (files_from from.now (listed Submitted (rows_of tables.now table_ids.Rev)))) }
 {
     let Some(path) = file_from(alloc, tables, from)? else {
         return Ok(None);

@@ -252,7 +252,8 @@ fn with_logged(
     row: &RevRecord,
     change: Option<&ChangeRecord>,
 ) -> Result<RowBuilder, AllocError>
-    ensures { IfOk result (λ more. more ≡ made ++ fields_by index.now (credited credits.now) row.now (option_map (λ c. Change c) (option_copied change.entry))) }
+    ensures { IfOk result (λ more. more ≡ made ++
+        fields_by index.now (credited credits.now) row.now (option_map (λ c. Change c) (option_copied change.entry))) }
 {
     match change {
         None => Ok(made),

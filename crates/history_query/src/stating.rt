@@ -75,7 +75,8 @@ fn with_have(made: RowBuilder, have: u32) -> Result<RowBuilder, AllocError>
 
 /// With the action for which the client has the file opened, if it has.
 fn with_action(made: RowBuilder, opening: Option<&WorkingRecord>) -> Result<RowBuilder, AllocError>
-    ensures { IfOk result (λ more. more ≡ made ++ if_any (λ r. field_of_text (codes "action") r.action) (option_copied opening.entry)) }
+    ensures { IfOk result (λ more. more ≡ made ++
+        if_any (λ r. field_of_text (codes "action") r.action) (option_copied opening.entry)) }
 {
     match opening {
         None => Ok(made),
@@ -98,7 +99,8 @@ fn stat_row(
     row: &RevRecord,
     change: &ChangeRecord,
 ) -> Result<Row, AllocError>
-    ensures { IfOk result (λ made. made ≡ stat_row_of path.now place.now have (option_copied opening.entry) (Rev row.now) (Change change.now)) }
+    ensures { IfOk result (λ made. made ≡
+        stat_row_of path.now place.now have (option_copied opening.entry) (Rev row.now) (Change change.now)) }
 {
     let made = RowBuilder::new(alloc).path(b"depotFile", path)?;
     let placed = with_place(made, place)?;
@@ -117,7 +119,8 @@ fn stat_file(
     opening: Option<&WorkingRecord>,
     told: Option<Told<'_>>,
 ) -> Result<Step, AllocError>
-    ensures { IfOk result (λ step. step ≡ told_rows (stats_told path.now place.now have (option_copied opening.entry) (option_map told_records told.entry))) }
+    ensures { IfOk result (λ step. step ≡
+        told_rows (stats_told path.now place.now have (option_copied opening.entry) (option_map told_records told.entry))) }
 {
     match told {
         None => Ok(Step::new(alloc)),

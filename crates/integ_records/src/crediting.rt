@@ -88,7 +88,8 @@ fn spans_in(
     range: &KeyRange,
     from: &[u8],
 ) -> Result<Sequence<Span>, AllocError>
-    ensures { IfOk result (λ spans. spans ≡ span_of_rows from.now (filter (has_row range.now) (rows_of tables.now (range_table range.now)))) }
+    ensures { IfOk result (λ spans. spans ≡
+        span_of_rows from.now (filter (has_row range.now) (rows_of tables.now (range_table range.now)))) }
 {
     let mut spans = Sequence::new(alloc);
     for row in rows_in(alloc, tables, range)? {

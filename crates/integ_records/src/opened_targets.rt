@@ -125,7 +125,8 @@ fn opening_over(
 
 /// The resolve of a target.
 fn owing(pair: &Pair<'_>, ends: Span) -> Result<Owing, AllocError>
-    ensures { IfOk result (λ owing. owing ≡ record { client = pair.now.caller.now.client; path = pair.now.to.now; from = pair.now.from.now; first = ends.first; last = ends.last }) }
+    ensures { IfOk result (λ owing. owing ≡
+        record { client = pair.now.caller.now.client; path = pair.now.to.now; from = pair.now.from.now; first = ends.first; last = ends.last }) }
 {
     let client = own_name(&pair.caller.client)?;
     let path = own_path(pair.to)?;
@@ -146,7 +147,8 @@ fn integrate_row(
     ends: Span,
     action: Action,
 ) -> Result<Row, AllocError>
-    ensures { IfOk result (λ row. row ≡ model.integrate_row pair.now.from.now pair.now.to.now ends.first ends.last (action_of action)) }
+    ensures { IfOk result (λ row. row ≡
+        model.integrate_row pair.now.from.now pair.now.to.now ends.first ends.last (action_of action)) }
 {
     let row = RowBuilder::new(alloc).path(b"depotFile", pair.to)?;
     let row = row.path(b"fromFile", pair.from)?;
@@ -165,7 +167,8 @@ fn opens_got(
     owing: Owing,
     row: Row,
 ) -> Result<Step, AllocError>
-    ensures { IfOk result (λ step. step ≡ done_with (done_deeds.Open opening ∷ done_deeds.Got file base ∷ done_deeds.Owe owing ∷ []) row) }
+    ensures { IfOk result (λ step. step ≡
+        done_with (done_deeds.Open opening ∷ done_deeds.Got file base ∷ done_deeds.Owe owing ∷ []) row) }
 {
     let mut step = Step::opens(alloc, opening, row)?;
     step.deeds.got(file, base)?;
@@ -183,7 +186,8 @@ fn opens_paid(
     how: How,
     row: Row,
 ) -> Result<Step, AllocError>
-    ensures { IfOk result (λ step. step ≡ done_with (done_deeds.Open opening ∷ done_deeds.Owe owing ∷ done_deeds.Paid file from how ∷ []) row) }
+    ensures { IfOk result (λ step. step ≡
+        done_with (done_deeds.Open opening ∷ done_deeds.Owe owing ∷ done_deeds.Paid file from how ∷ []) row) }
 {
     let mut step = Step::opens(alloc, opening, row)?;
     step.deeds.owe(owing)?;

@@ -31,7 +31,8 @@ fn label_text(alloc: Global, label: &[u8]) -> Result<Text, AllocError>
 
 /// The form of a label without further fields.
 fn label_form(alloc: Global, label: &Name) -> Result<Form, AllocError>
-    ensures { IfOk result (λ form. form ≡ record { shape = shapes.Label; fields = valued (codes "Label") label.now ∷ [] }) }
+    ensures { IfOk result (λ form. form ≡
+        record { shape = shapes.Label; fields = valued (codes "Label") label.now ∷ [] }) }
 {
     let text = label_text(alloc, label.as_bytes())?;
     match Form::read(alloc, text.as_bytes(), Shape::Label) {

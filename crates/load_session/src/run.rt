@@ -56,8 +56,10 @@ fn run_read<T: Taker, C: Clock, G: Gate>(
     ensures loaded { (since : ℕ) (start : List Deed) → AreWellFormed (commands_of session) →
         T.has_run taker.old since start [] →
         IsLoaded (C.says.may_give clock.now) (T.has_run taker.new since) start session order.new.items }
-    ensures stand { StandWithoutFaults (T.faults taker.old) (T.faults taker.new) (T.content_faults taker.old) (T.content_faults taker.new) [] order.new.items }
-    ensures faults { AreCaused (T.faults taker.old) (T.faults taker.new) (T.content_faults taker.old) (T.content_faults taker.new) [] order.new.items }
+    ensures stand { StandWithoutFaults (T.faults taker.old) (T.faults taker.new) (T.content_faults taker.old)
+        (T.content_faults taker.new) [] order.new.items }
+    ensures faults { AreCaused (T.faults taker.old) (T.faults taker.new) (T.content_faults taker.old)
+        (T.content_faults taker.new) [] order.new.items }
 {
     match session {
         Some(session) => {

@@ -29,7 +29,8 @@ impl LockCore {
 
     /// Whether a party may go on, in the machine or outside of it.
     fn may_go_on(&self, others: &[u32], party: u32) -> bool
-        ensures { result ≡ (may_wait self.now.parties.items (wait_at self.now.parties.items party) || has_other others.now party) }
+        ensures { result ≡ (may_wait self.now.parties.items (wait_at self.now.parties.items party) ||
+            has_other others.now party) }
     {
         self.may_go(party) || has_other(others, party)
     }

@@ -70,7 +70,8 @@ impl Work {
     /// Whether it has taken the lock of a table, and owns it: those that the command writes, and in a second attempt
     /// each.
     fn has_taken(&self, lock: LockId) -> bool
-        ensures { result ≡ list_any (holds_taken self.now.needs self.now.second lock) (take self.now.done (locks_in self.now.needs)) }
+        ensures { result ≡ list_any (holds_taken self.now.needs self.now.second lock)
+            (take self.now.done (locks_in self.now.needs)) }
     {
         let needs = self.needs;
         let second = self.second;

@@ -52,7 +52,8 @@ fn add_new<'a>(
     last: Option<&'a Text>,
     row: &'a Record,
 ) -> Result<Option<&'a Text>, AllocError>
-    ensures paths { OnOk result (paths.new ≡ paths.old ++ flat_map path_in_text (new_text (option_copied last.entry) row.now)) }
+    ensures paths { OnOk result (paths.new ≡ paths.old ++
+        flat_map path_in_text (new_text (option_copied last.entry) row.now)) }
     ensures last { IfOk result (λ next. option_copied next ≡ next_last (option_copied last.entry) row.now) }
 {
     let Record::Working(row) = row else {
@@ -72,7 +73,8 @@ fn add_opened_below(
     listing: &Listing,
     beginning: &Text,
 ) -> Result<(), AllocError>
-    ensures { OnOk result (paths.new ≡ paths.old ++ paths_in_front listing.now (rows_of tables.now (listing_table listing.now)) beginning.now) }
+    ensures { OnOk result (paths.new ≡ paths.old ++
+        paths_in_front listing.now (rows_of tables.now (listing_table listing.now)) beginning.now) }
 {
     let mut last = None;
     for row in rows_in(alloc, tables, listing, beginning)? {
@@ -88,7 +90,8 @@ fn opened_below(
     listing: &Listing,
     beginnings: &[Text],
 ) -> Result<Sequence<DepotPath>, AllocError>
-    ensures { IfOk result (λ paths. paths ≡ paths_in_turn listing.now (rows_of tables.now (listing_table listing.now)) beginnings.now) }
+    ensures { IfOk result (λ paths. paths ≡
+        paths_in_turn listing.now (rows_of tables.now (listing_table listing.now)) beginnings.now) }
 {
     let mut paths = Sequence::new(alloc);
     let mut rest = beginnings;
@@ -104,7 +107,8 @@ fn opened_below(
 fn rows_tell_files(tables: &Tables)
     ensures { (d : List Deed) (client : List ℕ) (beginnings : List (List ℕ)) → IsSound d →
         HasRows (rows_of tables.now) d table_ids.Working → AreApart beginnings →
-        paths_in_turn (Listing.OpenedBy client) (rows_of tables.now table_ids.Working) beginnings ≡ filter (has_one beginnings) (opened_anywhere d) }
+        paths_in_turn (Listing.OpenedBy client) (rows_of tables.now table_ids.Working) beginnings ≡
+        filter (has_one beginnings) (opened_anywhere d) }
 {
     let version = tables.version(TableId::Working);
     // the rows of a version are of its table, their keys rising

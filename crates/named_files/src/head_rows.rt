@@ -50,7 +50,8 @@ fn add_ended<'t>(
     before: Option<&'t Record>,
     row: &Record,
 ) -> Result<(), AllocError>
-    ensures { OnOk result (map (λ r. r.now) heads.new.items ≡ map (λ r. r.now) heads.old.items ++ ended (option_copied before.entry) row.now) }
+    ensures { OnOk result (map (λ r. r.now) heads.new.items ≡ map (λ r. r.now) heads.old.items ++
+        ended (option_copied before.entry) row.now) }
 {
     let Some(Record::Rev(before)) = before else {
         return Ok(());
@@ -63,7 +64,8 @@ fn add_ended<'t>(
 
 /// Adds the last row, where there is one, and it is of a revision.
 fn add_last<'t>(heads: &mut Vec<&'t RevRecord>, last: Option<&'t Record>) -> Result<(), AllocError>
-    ensures { OnOk result (map (λ r. r.now) heads.new.items ≡ map (λ r. r.now) heads.old.items ++ option_to_list (rev_of (option_copied last.entry))) }
+    ensures { OnOk result (map (λ r. r.now) heads.new.items ≡ map (λ r. r.now) heads.old.items ++
+        option_to_list (rev_of (option_copied last.entry))) }
 {
     if let Some(Record::Rev(last)) = last {
         heads.push(last)?;
@@ -81,8 +83,10 @@ fn add_headed_below<'t>(
     listing: &Listing,
     beginning: &Text,
 ) -> Result<(), AllocError>
-    ensures paths { OnOk result (paths.new ≡ paths.old ++ filter (has_beginning beginning.now) (listed listing.now (rows_of tables.now (listing_table listing.now)))) }
-    ensures heads { OnOk result (map (λ r. r.now) heads.new.items ≡ map (λ r. r.now) heads.old.items ++ heads_in_front listing.now (rows_of tables.now (listing_table listing.now)) beginning.now) }
+    ensures paths { OnOk result (paths.new ≡ paths.old ++
+        filter (has_beginning beginning.now) (listed listing.now (rows_of tables.now (listing_table listing.now)))) }
+    ensures heads { OnOk result (map (λ r. r.now) heads.new.items ≡ map (λ r. r.now) heads.old.items ++
+        heads_in_front listing.now (rows_of tables.now (listing_table listing.now)) beginning.now) }
 {
     let mut before = None;
     for row in rows_in(alloc, tables, listing, beginning)? {
@@ -102,8 +106,10 @@ fn headed_below<'t>(
     listing: &Listing,
     beginnings: &[Text],
 ) -> Result<HeadedFiles<'t>, AllocError>
-    ensures paths { IfOk result (λ found. found.paths ≡ in_turn beginnings.now (listed listing.now (rows_of tables.now (listing_table listing.now)))) }
-    ensures heads { IfOk result (λ found. map (λ r. r.now) found.heads.items ≡ heads_in_turn listing.now (rows_of tables.now (listing_table listing.now)) beginnings.now) }
+    ensures paths { IfOk result (λ found. found.paths ≡
+        in_turn beginnings.now (listed listing.now (rows_of tables.now (listing_table listing.now)))) }
+    ensures heads { IfOk result (λ found. map (λ r. r.now) found.heads.items ≡
+        heads_in_turn listing.now (rows_of tables.now (listing_table listing.now)) beginnings.now) }
 {
     let mut paths = Sequence::new(alloc);
     let mut heads = Vec::new(alloc);
@@ -118,7 +124,8 @@ fn headed_below<'t>(
 /// The last row of each file, of those that begin with one of some texts, is that of its newest revision.
 fn last_rows_are_heads(tables: &Tables, listing: &Listing)
     ensures { (beginnings : List (List ℕ)) →
-        All (IsHead (rows_of tables.now (listing_table listing.now))) (heads_in_turn listing.now (rows_of tables.now (listing_table listing.now)) beginnings) }
+        All (IsHead (rows_of tables.now (listing_table listing.now)))
+        (heads_in_turn listing.now (rows_of tables.now (listing_table listing.now)) beginnings) }
 {
     let version = tables.version(listing.table());
     // the rows of a version are of its table, their keys rising

@@ -74,7 +74,8 @@ fn made_below(
     change: u32,
     beginnings: &[Text],
 ) -> Result<Sequence<DepotPath>, AllocError>
-    ensures { IfOk result (λ paths. paths ≡ in_turn beginnings.now (flat_map path_revised (filter (is_of_change change) (rows_of tables.now table_ids.Rev)))) }
+    ensures { IfOk result (λ paths. paths ≡
+        in_turn beginnings.now (flat_map path_revised (filter (is_of_change change) (rows_of tables.now table_ids.Rev)))) }
 {
     let mut paths = Sequence::new(alloc);
     let mut rest = beginnings;

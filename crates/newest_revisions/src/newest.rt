@@ -82,7 +82,8 @@ fn asks_heads(argument: &FileArgument, listing: &Listing) -> bool
 
 /// Whether a revision isn't deleted.
 pub fn is_live(row: &RevRecord) -> bool
-    ensures { result ≡ (not (bytes_eq row.now.action (codes "delete")) && not (bytes_eq row.now.action (codes "move/delete"))) }
+    ensures { result ≡ (not (bytes_eq row.now.action (codes "delete")) &&
+        not (bytes_eq row.now.action (codes "move/delete"))) }
 {
     let action = row.action.as_bytes();
     !(action == b"delete".as_slice()) && !(action == b"move/delete".as_slice())
@@ -123,7 +124,8 @@ impl<'t> SeenRows<'t> {
     ) -> Result<Sequence<DepotPath>, AllocError>
         ensures paths { IfOk result (λ paths. (d : List Deed) →
             ShownReads set.now.caller.now set.now.asker.now set.now.listing.now (rows_of tables.now) d →
-            filter (names_file false d set.now.caller.now argument.now.spec) paths ≡ filter (names_file false d set.now.caller.now argument.now.spec) (files_of set.now.listing.now d)) }
+            filter (names_file false d set.now.caller.now argument.now.spec) paths ≡
+            filter (names_file false d set.now.caller.now argument.now.spec) (files_of set.now.listing.now d)) }
         ensures heads { IfOk result (λ _. AreHeads (rows_of tables.now table_ids.Rev) self.old →
             AreHeads (rows_of tables.now table_ids.Rev) self.new) }
     {
@@ -207,7 +209,8 @@ impl<'t> SeenRows<'t> {
         ensures row { IfOk result (λ row. (d : List Deed) → AreHeads (rows_of tables.now table_ids.Rev) self.old →
             IsSound d → HasRows (rows_of tables.now) d table_ids.Rev →
             HaveRows (rows_of tables.now) d (wanted_tables wanted.now) →
-            option_map seen (option_copied row) ≡ option_map numbered_record (numbered d path.now (chosen_in d caller.now path.now wanted.now))) }
+            option_map seen (option_copied row) ≡
+            option_map numbered_record (numbered d path.now (chosen_in d caller.now path.now wanted.now))) }
         ensures stored { IfOk result (λ row. AreHeads (rows_of tables.now table_ids.Rev) self.old → (r : Revised) →
             option_copied row ≡ Some r →
             row_in (rows_of tables.now) (keys.Rev (printed path.now) r.rev) ≡ Some (Row.Rev r)) }

@@ -10,7 +10,8 @@ use std::alloc::{AllocError, Global};
 
 /// The row of a file with which something was done.
 pub(crate) fn action_row(alloc: Global, path: &DepotPath, action: &[u8]) -> Result<Row, AllocError>
-    ensures { IfOk result (λ row. row ≡ row_with (field_of_path (codes "depotFile") path.now ∷ field_of_text (codes "action") action.now ∷ [])) }
+    ensures { IfOk result (λ row. row ≡
+        row_with (field_of_path (codes "depotFile") path.now ∷ field_of_text (codes "action") action.now ∷ [])) }
 {
     let row = RowBuilder::new(alloc).path(b"depotFile", path)?;
     let row = row.text(b"action", action)?;

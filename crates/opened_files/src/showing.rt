@@ -71,7 +71,8 @@ fn rows_shown(
     all: bool,
     client: &Name,
 ) -> Result<Sequence<Row>, AllocError>
-    ensures { IfOk result (λ rows. rows ≡ map row_of_working (filter (shown_to all client.now) (workings (filter (has_row range.now) (rows_of tables.now (range_table range.now)))))) }
+    ensures { IfOk result (λ rows. rows ≡
+        map row_of_working (filter (shown_to all client.now) (workings (filter (has_row range.now) (rows_of tables.now (range_table range.now)))))) }
 {
     let mut rows = Sequence::new(alloc);
     for row in rows_in(alloc, tables, range)? {

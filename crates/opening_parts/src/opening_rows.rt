@@ -29,7 +29,8 @@ pub fn action_word(action: Action) -> &'static [u8]
 
 /// With the place of a file in the client, where it has one.
 fn with_place(row: RowBuilder, place: Option<&ClientPath>) -> Result<RowBuilder, AllocError>
-    ensures { IfOk result (λ more. more ≡ row ++ if_any (field_of_path (codes "clientFile")) (option_copied place.entry)) }
+    ensures { IfOk result (λ more. more ≡ row ++
+        if_any (field_of_path (codes "clientFile")) (option_copied place.entry)) }
 {
     match place {
         Some(place) => {

@@ -55,7 +55,8 @@ pub fn owed_of<'a>(
     from: &DepotPath,
 ) -> Result<Option<&'a ResolveRecord>, AllocError>
     ensures { IfOk result (λ row. (d : List Deed) → HasRows (rows_of tables.now) d table_ids.Resolve →
-        option_map Record.Resolve (option_copied row) ≡ option_map resolve_record (owed d client.now path.now from.now)) }
+        option_map Record.Resolve (option_copied row) ≡
+        option_map resolve_record (owed d client.now path.now from.now)) }
 {
     let key = owed_key(alloc, client, path, from)?;
     let version = tables.version(TableId::Resolve);

@@ -127,7 +127,8 @@ pub fn rows_tell_openings()
     ensures opening { (d : List Deed) (client path : List ℕ) (o : ModelOpening) (row : AnyRow) → IsSound d →
         opened d client path ≡ Some o → records.Working row ≡ working_record d o →
         opening_of (opening_in_row client path row None None) ≡ o }
-    ensures reopened { (d : List Deed) (client path : List ℕ) (o : ModelOpening) (row : AnyRow) (change : Option ℕ) (file_type : Option (List ℕ)) →
+    ensures reopened { (d : List Deed) (client path : List ℕ) (o : ModelOpening) (row : AnyRow) (change : Option ℕ)
+        (file_type : Option (List ℕ)) →
         IsSound d → opened d client path ≡ Some o →
         records.Working row ≡ working_record d o →
         opening_of (opening_in_row client path row change file_type) ≡ moved change file_type o }

@@ -28,7 +28,8 @@ use std::alloc::{AllocError, Global};
 pub fn rows_tell_resolves(tables: &Tables)
     ensures { (d : List Deed) (o : Opening) → IsSound d → HasRows (rows_of tables.now) d table_ids.Resolve →
         opened d o.client o.path ≡ Some o →
-        filter (has_row (ranges.FileResolves o.client (printed o.path))) (rows_of tables.now table_ids.Resolve) ≡ map resolve_record (resolves_of d o) }
+        filter (has_row (ranges.FileResolves o.client (printed o.path))) (rows_of tables.now table_ids.Resolve) ≡
+        map resolve_record (resolves_of d o) }
 {
     let version = tables.version(TableId::Resolve);
     // the rows of a version are of its table, their keys rising
@@ -56,7 +57,8 @@ pub fn file_resolves(alloc: Global, client: &Name, path: &DepotPath) -> Result<K
 
 /// Whether a row of a range is of a resolve that is owed.
 fn any_unpaid(alloc: Global, tables: &Tables, range: &KeyRange) -> Result<bool, AllocError>
-    ensures { IfOk result (λ owes. owes ≡ list_any is_unpaid_row (filter (has_row range.now) (rows_of tables.now (range_table range.now)))) }
+    ensures { IfOk result (λ owes. owes ≡
+        list_any is_unpaid_row (filter (has_row range.now) (rows_of tables.now (range_table range.now)))) }
 {
     for row in rows_in(alloc, tables, range)? {
         if is_unpaid(row) {
@@ -137,7 +139,8 @@ fn owings_in(
     path: &DepotPath,
     range: &KeyRange,
 ) -> Result<Sequence<Owing>, AllocError>
-    ensures { IfOk result (λ owings. owings ≡ filter_map (owing_of_row client.now path.now) (filter (has_row range.now) (rows_of tables.now (range_table range.now)))) }
+    ensures { IfOk result (λ owings. owings ≡
+        filter_map (owing_of_row client.now path.now) (filter (has_row range.now) (rows_of tables.now (range_table range.now)))) }
 {
     let mut owings = Sequence::new(alloc);
     for row in rows_in(alloc, tables, range)? {

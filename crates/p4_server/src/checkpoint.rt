@@ -51,7 +51,15 @@ fn ended_placed<D, S, K>(
     journal: D,
     archive: D,
 ) -> Ended<D, S, K>
-    ensures { result ≡ record { status = status_of cause; cause = cause; order = order; parties = []; sources = []; journal = journal; archive = archive } }
+    ensures { result ≡ record {
+      status = status_of cause;
+      cause = cause;
+      order = order;
+      parties = [];
+      sources = [];
+      journal = journal;
+      archive = archive;
+    } }
 {
     Ended {
         status: status_code(cause),
@@ -102,7 +110,8 @@ fn end_untaken<D, S, K: Sink>(
     ensures sources { result.sources ≡ [] }
     ensures cause { fault ≡ faults.DiskFault → result.cause ≡ Cause.Fault }
     ensures line { fault ≡ faults.DiskFault →
-        OutGot (K.says.given out.old) (K.says.given out.new) (K.says.faults out.old) (K.says.faults out.new) (cause_line Cause.Fault) }
+        OutGot (K.says.given out.old) (K.says.given out.new) (K.says.faults out.old) (K.says.faults out.new)
+        (cause_line Cause.Fault) }
     ensures memory { fault ≡ faults.Memory → result.cause ≡ Cause.Memory }
     ensures unrun { fault ≡ faults.Memory → IsUnrun result }
     ensures status { result.status ≡ status_of result.cause }
@@ -130,7 +139,8 @@ pub fn checkpoint<D: Disk, S, K: Sink, C: Clock>(
     out: &mut K,
     clock: &C,
 ) -> Ended<D, S, K>
-    ensures checkpoints { Checkpoints D.says K.says (C.says.may_give clock.now) (record { journal = journal; archive = archive; out = out.old }) (record { out = out.new; ended = result }) }
+    ensures checkpoints { Checkpoints D.says K.says (C.says.may_give clock.now)
+        (record { journal = journal; archive = archive; out = out.old }) (record { out = out.new; ended = result }) }
     ensures status { result.status ≡ status_of result.cause }
 {
     let Opened {

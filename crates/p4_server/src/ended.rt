@@ -76,7 +76,8 @@ fn end_at<K>(runs: &[SessionRun], ends: &[ScriptEnd], index: usize, sink: K) -> 
     requires ends { index < length ends.now }
     requires few { index < 16 }
     ensures { (rest : List K) →
-        ended_parties (index + 1) (drop index runs.now) (drop index ends.now) (sink ∷ rest) ≡ result ∷ ended_parties (index + 1 + 1) (drop (index + 1) runs.now) (drop (index + 1) ends.now) rest }
+        ended_parties (index + 1) (drop index runs.now) (drop index ends.now) (sink ∷ rest) ≡ result ∷
+        ended_parties (index + 1 + 1) (drop (index + 1) runs.now) (drop (index + 1) ends.now) rest }
 {
     let run = runs[index];
     PartyEnd {

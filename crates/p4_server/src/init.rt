@@ -29,7 +29,8 @@ pub fn init<D: Disk, S, K: Sink>(
     archive: D,
     out: &mut K,
 ) -> Ended<D, S, K>
-    ensures inits { Inits D.says K.says (record { journal = journal; archive = archive; out = out.old }) (record { out = out.new; ended = result }) }
+    ensures inits { Inits D.says K.says (record { journal = journal; archive = archive; out = out.old })
+        (record { out = out.new; ended = result }) }
     ensures status { result.status ≡ status_of result.cause }
 {
     let mut journal = journal;

@@ -14,12 +14,14 @@ use outside_api::{Clock, Disk, Doors};
 /// from the first change on. The next run, over these disks or over what a stop left of them, reads such a pair, so
 /// that its replicas are promised their replies.
 pub fn runs_follow_one_another<H: Doors, D: Disk, C: Clock>(clock: &C)
-    ensures begun { (old_doors new_doors : H) (words : List (List ℕ)) (before : Before D H.Out) (after : After D H.In H.Out) →
+    ensures begun { (old_doors new_doors : H) (words : List (List ℕ)) (before : Before D H.Out)
+        (after : After D H.In H.Out) →
         asked words ≡ Some init →
         KeepsPromise (record { disk = D.says; source = H.In.says; sink = H.Out.says; doors = H.says; may_give = C.says.may_give clock.now }) old_doors new_doors words before after →
         after.ended.cause ≡ Done → Tells D.says before.journal → Tells D.says before.archive →
         AreOfHistories D.says after.ended.journal after.ended.archive }
-    ensures goes_on { (old_doors new_doors : H) (words : List (List ℕ)) (before : Before D H.Out) (after : After D H.In H.Out) →
+    ensures goes_on { (old_doors new_doors : H) (words : List (List ℕ)) (before : Before D H.Out)
+        (after : After D H.In H.Out) →
         KeepsPromise (record { disk = D.says; source = H.In.says; sink = H.Out.says; doors = H.says; may_give = C.says.may_give clock.now }) old_doors new_doors words before after →
         AreOfHistories D.says before.journal before.archive →
         AreOfHistories D.says after.ended.journal after.ended.archive }

@@ -55,7 +55,8 @@ fn figures_of(alloc: Global, tables: &Tables, commands: u32) -> Result<LoadFigur
 /// Gives the lines of figures, and says why the program ends then.
 fn give_lines<K: Sink>(figures: LoadFigures, lines: &Text, out: &mut K) -> Cause
     requires { lines.now ≡ lines_of figures }
-    ensures { IsFigured result (K.says.given out.old) (K.says.given out.new) (K.says.faults out.old) (K.says.faults out.new) figures }
+    ensures { IsFigured result (K.says.given out.old) (K.says.given out.new) (K.says.faults out.old)
+        (K.says.faults out.new) figures }
 {
     match give_all(out, lines.as_bytes()) {
         Ok(()) => Cause::Done,
@@ -65,7 +66,9 @@ fn give_lines<K: Sink>(figures: LoadFigures, lines: &Text, out: &mut K) -> Cause
 
 /// Gives the figures of the depot of these tables, and says why the program ends then.
 fn give_figures<K: Sink>(alloc: Global, tables: &Tables, commands: u32, out: &mut K) -> Cause
-    ensures { GivesFigures result (K.says.given out.old) (K.says.given out.new) (K.says.faults out.old) (K.says.faults out.new) (λ figures. (d : List Deed) → Stand (rows_of tables.now) d → figures ≡ figures_in commands d) }
+    ensures { GivesFigures result (K.says.given out.old) (K.says.given out.new) (K.says.faults out.old)
+        (K.says.faults out.new) (λ figures. (d : List Deed) → Stand (rows_of tables.now) d → figures ≡
+        figures_in commands d) }
 {
     let figures = match figures_of(alloc, tables, commands) {
         Ok(figures) => figures,
@@ -104,7 +107,8 @@ fn cause_of_load(commands: u32, end: ScriptEnd, order: &[Place]) -> Cause
 
 /// Tells a load: the figures where all is done so far, and else the line of the cause. Says why the program ends then.
 fn tell<K: Sink>(alloc: Global, cause: Cause, tables: &Tables, commands: u32, out: &mut K) -> Cause
-    ensures { IsLoadTold (K.says.given out.old) (K.says.given out.new) (K.says.faults out.old) (K.says.faults out.new) (λ figures. (d : List Deed) → Stand (rows_of tables.now) d → figures ≡ figures_in commands d) result cause }
+    ensures { IsLoadTold (K.says.given out.old) (K.says.given out.new) (K.says.faults out.old) (K.says.faults out.new)
+        (λ figures. (d : List Deed) → Stand (rows_of tables.now) d → figures ≡ figures_in commands d) result cause }
 {
     match cause {
         Cause::Done => give_figures(alloc, tables, commands, out),
@@ -126,7 +130,9 @@ fn ended_load<D, S, K: Sink>(
 ) -> Ended<D, S, K>
     ensures order { result.order ≡ run.order }
     ensures no_parties { (result.parties ≡ []) × (result.sources ≡ []) }
-    ensures told { IsLoadTold (K.says.given out.old) (K.says.given out.new) (K.says.faults out.old) (K.says.faults out.new) (λ figures. (d : List Deed) → Stand (rows_of tables.now) d → figures ≡ figures_in run.commands d) result.cause (load_cause run.commands run.end run.order) }
+    ensures told { IsLoadTold (K.says.given out.old) (K.says.given out.new) (K.says.faults out.old)
+        (K.says.faults out.new) (λ figures. (d : List Deed) → Stand (rows_of tables.now) d → figures ≡
+        figures_in run.commands d) result.cause (load_cause run.commands run.end run.order) }
     ensures status { result.status ≡ status_of result.cause }
     ensures journal { result.journal ≡ journal }
     ensures archive { result.archive ≡ archive }
@@ -173,8 +179,10 @@ fn load_depot<D: Disk, C: Clock, G: Gate, F: Following>(
     ensures commands { IfOk result.run (λ run. run.commands ≡ length (commands_of (session_of seed count))) }
     ensures loaded { (since : ℕ) (start : List Deed) → HasRun D.says depot since start [] → IfOk result.run (λ run.
         IsLoaded (C.says.may_give clock.now) (HasRunFollowed D.says F.masters result.depot since) start (session_of seed count) run.order) }
-    ensures stand { IfOk result.run (λ run. StandWithoutFaults (D.says.faults (disk_of depot.journal)) (D.says.faults (disk_of result.depot.journal)) (D.says.faults (archive_disk_of depot.archive)) (D.says.faults (archive_disk_of result.depot.archive)) [] run.order) }
-    ensures faults { IfOk result.run (λ run. AreCaused (D.says.faults (disk_of depot.journal)) (D.says.faults (disk_of result.depot.journal)) (D.says.faults (archive_disk_of depot.archive)) (D.says.faults (archive_disk_of result.depot.archive)) [] run.order) }
+    ensures stand { IfOk result.run
+        (λ run. StandWithoutFaults (D.says.faults (disk_of depot.journal)) (D.says.faults (disk_of result.depot.journal)) (D.says.faults (archive_disk_of depot.archive)) (D.says.faults (archive_disk_of result.depot.archive)) [] run.order) }
+    ensures faults { IfOk result.run
+        (λ run. AreCaused (D.says.faults (disk_of depot.journal)) (D.says.faults (disk_of result.depot.journal)) (D.says.faults (archive_disk_of depot.archive)) (D.says.faults (archive_disk_of result.depot.archive)) [] run.order) }
 {
     let mut followed = FollowedDepot::<D, F>::new(depot);
     let run = run_load(alloc, seed, count, clock, gate, &mut followed);
@@ -195,7 +203,9 @@ fn load_files<D: Disk, S, K: Sink, C: Clock, G: Gate>(
     clock: &C,
     gate: &G,
 ) -> Ended<D, S, K>
-    ensures loads { LoadsFiles D.says K.says (C.says.may_give clock.now) (record { journal = journal; archive = archive; out = out.old }) (record { out = out.new; ended = result }) seed count }
+    ensures loads { LoadsFiles D.says K.says (C.says.may_give clock.now)
+        (record { journal = journal; archive = archive; out = out.old })
+        (record { out = out.new; ended = result }) seed count }
     ensures status { result.status ≡ status_of result.cause }
 {
     let Opened {
@@ -241,7 +251,9 @@ pub fn load<D: Disk, S, K: Sink, C: Clock, G: Gate>(
     clock: &C,
     gate: &G,
 ) -> Ended<D, S, K>
-    ensures loads { Loads D.says K.says (C.says.may_give clock.now) (record { journal = journal; archive = archive; out = out.old }) (record { out = out.new; ended = result }) seed count }
+    ensures loads { Loads D.says K.says (C.says.may_give clock.now)
+        (record { journal = journal; archive = archive; out = out.old })
+        (record { out = out.new; ended = result }) seed count }
     ensures status { result.status ≡ status_of result.cause }
 {
     let mut journal = journal;

@@ -59,7 +59,8 @@ pub fn open_doors<H: Doors>(
 ) -> Result<Came<H::In, H::Out>, NotRun>
     requires different { AreDifferent (words_of names.now) }
     ensures came { IfOk result (λ came. HaveCome H.In.says H.Out.says (H.says.input doors.old) (H.says.output doors.old) (words_of names.now) came.sources.items came.sinks.items) }
-    ensures only { OnlyTheseCome (H.says.input doors.old) (H.says.output doors.old) (H.says.input doors.new) (H.says.output doors.new) (words_of names.now) }
+    ensures only { OnlyTheseCome (H.says.input doors.old) (H.says.output doors.old) (H.says.input doors.new)
+        (H.says.output doors.new) (words_of names.now) }
     ensures cause { result ≡ Err NotRun.Doors → HasRisen (H.says.faults doors.old) (H.says.faults doors.new) }
 {
     let mut came = Came {
@@ -201,12 +202,15 @@ pub fn run_parties<H: Doors, D: Disk, C: Clock, G: Gate>(
     ensures run { (since : ℕ) (start : List Deed) → HasRun D.says depot since start [] → IfOk result.run (λ run.
         IsRunFrom D.says H.In.says H.Out.says (C.says.may_give clock.now) since start depot result.depot (IsDrawn (C.says.may_give clock.now) seed) (λ past. CanBeFollowed D.says past start [] depot) (H.says.input doors.old) (H.says.output doors.old) (words_of names.now) run.order run.lost (parties_of run) run.sources.items) }
     ensures lost { IfOk result.run (λ run. run.lost ≡ true →
-        HasRisen (D.says.faults (disk_of depot.journal)) (D.says.faults (disk_of result.depot.journal)) ⊎ HasRisen (D.says.faults (archive_disk_of depot.archive)) (D.says.faults (archive_disk_of result.depot.archive))) }
+        HasRisen (D.says.faults (disk_of depot.journal)) (D.says.faults (disk_of result.depot.journal)) ⊎
+        HasRisen (D.says.faults (archive_disk_of depot.archive)) (D.says.faults (archive_disk_of result.depot.archive))) }
     ensures stand { IfOk result.run (λ run. run.lost ≡ false →
         StandWithoutFaults (D.says.faults (disk_of depot.journal)) (D.says.faults (disk_of result.depot.journal)) (D.says.faults (archive_disk_of depot.archive)) (D.says.faults (archive_disk_of result.depot.archive)) [] run.order) }
-    ensures faults { IfOk result.run (λ run. AreCaused (D.says.faults (disk_of depot.journal)) (D.says.faults (disk_of result.depot.journal)) (D.says.faults (archive_disk_of depot.archive)) (D.says.faults (archive_disk_of result.depot.archive)) [] run.order) }
+    ensures faults { IfOk result.run
+        (λ run. AreCaused (D.says.faults (disk_of depot.journal)) (D.says.faults (disk_of result.depot.journal)) (D.says.faults (archive_disk_of depot.archive)) (D.says.faults (archive_disk_of result.depot.archive)) [] run.order) }
     ensures unrun { (why : NotRun) → result.run ≡ Err why → result.depot ≡ depot }
-    ensures only { OnlyTheseCome (H.says.input doors.old) (H.says.output doors.old) (H.says.input doors.new) (H.says.output doors.new) (words_of names.now) }
+    ensures only { OnlyTheseCome (H.says.input doors.old) (H.says.output doors.old) (H.says.input doors.new)
+        (H.says.output doors.new) (words_of names.now) }
     ensures doors { result.run ≡ Err NotRun.Doors → HasRisen (H.says.faults doors.old) (H.says.faults doors.new) }
 {
     let Came { sources, sinks } = match open_doors(alloc, names, doors) {

@@ -58,7 +58,9 @@ fn report_of<K: Drop>(
 
 /// Gives the lines, and says why the program ends then.
 fn give_lines<K: Sink>(out: &mut K, text: &[u8], cause: Cause) -> Cause
-    ensures { ((result ≡ cause) × (K.says.given out.new ≡ extended (K.says.given out.old) text.now)) ⊎ ((result ≡ Cause.Fault) × HasRisen (K.says.faults out.old) (K.says.faults out.new) × GotFront (K.says.given out.old) (K.says.given out.new) text.now) }
+    ensures { ((result ≡ cause) × (K.says.given out.new ≡ extended (K.says.given out.old) text.now)) ⊎
+        ((result ≡ Cause.Fault) × HasRisen (K.says.faults out.old) (K.says.faults out.new) ×
+        GotFront (K.says.given out.old) (K.says.given out.new) text.now) }
 {
     match give_all(out, text) {
         Ok(()) => cause,
@@ -76,7 +78,8 @@ pub(crate) fn told<S: Drop, K: Sink + Drop, D>(
 ) -> Ended<D, S, K>
     requires { CanBeTold run }
     ensures order { result.order ≡ run.order }
-    ensures told { IsReport K.says out.old out.new result run.order (parties_of run) run.sources.items run.lost ⊎ IsUntold result }
+    ensures told { IsReport K.says out.old out.new result run.order (parties_of run) run.sources.items run.lost ⊎
+        IsUntold result }
     ensures status { result.status ≡ status_of result.cause }
     ensures journal { result.journal ≡ journal }
     ensures archive { result.archive ≡ archive }

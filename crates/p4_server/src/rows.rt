@@ -23,7 +23,8 @@ pub enum RowsFault {
 
 /// Gives the text of a row.
 fn give_row<K: Sink>(alloc: Global, row: &Record, out: &mut K) -> Result<(), RowsFault>
-    ensures prints { Prints (K.says.given out.old) (K.says.given out.new) (K.says.faults out.old) (K.says.faults out.new) (row_text row.now) result }
+    ensures prints { Prints (K.says.given out.old) (K.says.given out.new) (K.says.faults out.old)
+        (K.says.faults out.new) (row_text row.now) result }
     ensures counts { K.says.faults out.old ≤ K.says.faults out.new }
 {
     let Ok(text) = print_record(alloc, Op::Put, row) else {
@@ -37,7 +38,8 @@ fn give_row<K: Sink>(alloc: Global, row: &Record, out: &mut K) -> Result<(), Row
 
 /// Gives the text of the rows of a table, in the order of their keys.
 fn give_rows<K: Sink>(alloc: Global, version: &Version, out: &mut K) -> Result<(), RowsFault>
-    ensures prints { Prints (K.says.given out.old) (K.says.given out.new) (K.says.faults out.old) (K.says.faults out.new) (rows_text version.now.rows) result }
+    ensures prints { Prints (K.says.given out.old) (K.says.given out.new) (K.says.faults out.old)
+        (K.says.faults out.new) (rows_text version.now.rows) result }
     ensures counts { K.says.faults out.old ≤ K.says.faults out.new }
 {
     for row in version.rows() {
@@ -51,7 +53,8 @@ fn give_rows<K: Sink>(alloc: Global, version: &Version, out: &mut K) -> Result<(
 
 /// Gives the text of the rows of all tables, row by row, tables and keys rising. It copies no table.
 pub fn give_tables<K: Sink>(alloc: Global, tables: &Tables, out: &mut K) -> Result<(), RowsFault>
-    ensures prints { Prints (K.says.given out.old) (K.says.given out.new) (K.says.faults out.old) (K.says.faults out.new) (tables_text (λ table. (version_of tables.now table).rows) all_tables) result }
+    ensures prints { Prints (K.says.given out.old) (K.says.given out.new) (K.says.faults out.old)
+        (K.says.faults out.new) (tables_text (λ table. (version_of tables.now table).rows) all_tables) result }
     ensures counts { K.says.faults out.old ≤ K.says.faults out.new }
 {
     for table in TableId::ALL {

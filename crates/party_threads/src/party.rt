@@ -44,7 +44,8 @@ impl<K: Sink, N: Serving> ThreadParty<K, N> {
         gate: &G,
     )
         requires { IsReady N.begins self.old }
-        ensures { HasRunParty D.says N.end N.images (C.says.may_give clock.now) K.says N.begins N.masters self.old self.new }
+        ensures { HasRunParty D.says N.end N.images
+            (C.says.may_give clock.now) K.says N.begins N.masters self.old self.new }
     {
         match self.replica.take() {
             Some(replica) => {

@@ -52,7 +52,9 @@ pub(crate) fn answer_commands<R: Wait, D: Disk, K: Sink, C: Clock, N: Serving>(
     requires few { length replica.left.items ≤ 67108864 }
     ensures party { pass.new.party ≡ pass.old.party }
     ensures marks_party { marks.new.party ≡ marks.old.party }
-    ensures served { IsReplicaServed D.says N.end N.images N.begins N.masters K.says (C.says.may_give clock.now) pass.old.party replica result (mark_count marks.new) sink.old sink.new pass.new.list }
+    ensures served { IsReplicaServed D.says N.end N.images N.begins N.masters K.says
+        (C.says.may_give clock.now) pass.old.party replica result
+        (mark_count marks.new) sink.old sink.new pass.new.list }
 {
     let total = replica.left_count();
     for number in 0..total {

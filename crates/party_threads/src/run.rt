@@ -83,7 +83,8 @@ fn bring<C: Clock>(
     requires few_replicas { All (λ script. length (replica_commands script) ≤ 67108864) scripts.items }
     ensures requests { IfOk result (λ brought. AreRequestsOfAll (C.says.may_give clock.now) 1 sessions.items (map (λ own. own.items) brought.requests.items)) }
     ensures replicas { IfOk result (λ brought. AreFresh (C.says.may_give clock.now) 1 scripts.items brought.replicas.items) }
-    ensures places { IfOk result (λ brought. brought.places.items ≡ map (λ own. length own.items) brought.requests.items) }
+    ensures places { IfOk result (λ brought. brought.places.items ≡
+        map (λ own. length own.items) brought.requests.items) }
     ensures words { IfOk result (λ brought. AreFreshWords (length sessions.items) brought.words) }
 {
     let parties = sessions.len() as u32;

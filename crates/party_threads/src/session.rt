@@ -31,7 +31,8 @@ fn take_command<R: Wait, D: Disk, K: Sink, C: Clock, G: Gate, N: Serving>(
 ) -> bool
     requires party { request.party ≡ pass.old.party }
     requires proper { (since : ℕ) (start : List Deed) → N.begins since start → IsProper request }
-    ensures answered { IsAnswered (C.says.may_give clock.now) N.begins pass.old pass.new request (K.says.given sink.old) (K.says.given sink.new) result }
+    ensures answered { IsAnswered (C.says.may_give clock.now) N.begins pass.old pass.new request (K.says.given sink.old)
+        (K.says.given sink.new) result }
     ensures counts { K.says.faults sink.old ≤ K.says.faults sink.new }
     ensures cause { result ≡ true → HasRisen (K.says.faults sink.old) (K.says.faults sink.new) }
 {
@@ -61,7 +62,8 @@ pub(crate) fn take_commands<R: Wait, D: Disk, K: Sink, C: Clock, G: Gate, N: Ser
     requires numbered { AreNumbered pass.old.party requests.items }
     requires proper { (since : ℕ) (start : List Deed) → N.begins since start → AllByRecursion IsProper requests.items }
     ensures party { pass.new.party ≡ pass.old.party }
-    ensures taken { HasTaken (C.says.may_give clock.now) N.begins pass.old.party requests.items result (K.says.given sink.old) (K.says.given sink.new) pass.new.list }
+    ensures taken { HasTaken (C.says.may_give clock.now) N.begins pass.old.party requests.items result
+        (K.says.given sink.old) (K.says.given sink.new) pass.new.list }
     ensures end { IsEnd K.says (length requests.items) result sink.old sink.new }
 {
     let mut commands = 0;

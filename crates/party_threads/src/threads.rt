@@ -48,7 +48,8 @@ fn run_parties<
     parties: &mut [ThreadParty<K, N>],
 )
     requires { All (IsReady N.begins) parties.old }
-    ensures run { HaveRun D.says N.end N.images (C.says.may_give clock.now) K.says N.begins N.masters parties.old parties.new }
+    ensures run { HaveRun D.says N.end N.images
+        (C.says.may_give clock.now) K.says N.begins N.masters parties.old parties.new }
     ensures count { length parties.new ≡ length parties.old }
 {
     let threads = parties.len().max(1);
@@ -58,7 +59,8 @@ fn run_parties<
         threads,
         &|_, party: &mut ThreadParty<K, N>|
             requires { IsReady N.begins party.now }
-            ensures { HasRunParty D.says N.end N.images (C.says.may_give clock.entry.now) K.says N.begins N.masters party.entry.now party.exit.now }
+            ensures { HasRunParty D.says N.end N.images
+                (C.says.may_give clock.entry.now) K.says N.begins N.masters party.entry.now party.exit.now }
         { party.run(rt, alloc, depot, clock, gate) },
     );
 }
@@ -181,7 +183,9 @@ fn run_and_close<
     requires asked { AreAsked N.begins (map (λ own. own.items) requests.items) }
     requires few { All (λ replica. length (left_in replica) ≤ 67108864) replicas.items }
     requires room { IsRoom (length requests.items) room }
-    ensures { HaveRunAll D.says N.end N.images (C.says.may_give clock.now) K.says N.begins N.masters N.faults N.content_faults (map (λ own. own.items) requests.items) replicas.items sinks.items result }
+    ensures { HaveRunAll D.says N.end N.images
+        (C.says.may_give clock.now) K.says N.begins N.masters N.faults N.content_faults
+        (map (λ own. own.items) requests.items) replicas.items sinks.items result }
 {
     let Room {
         mut parties,

@@ -50,7 +50,8 @@ pub fn make_files<D: Disk>(journal: &mut D, archive: &mut D) -> Result<(), MakeF
     ensures unfailed { result ≢ Err DiskFault →
         (D.says.faults journal.new ≡ D.says.faults journal.old) ×
         (D.says.faults archive.new ≡ D.says.faults archive.old) }
-    ensures cause { AreCauses (D.says.faults journal.old) (D.says.faults journal.new) (D.says.faults archive.old) (D.says.faults archive.new) (result ≡ Err DiskFault) }
+    ensures cause { AreCauses (D.says.faults journal.old) (D.says.faults journal.new) (D.says.faults archive.old)
+        (D.says.faults archive.new) (result ≡ Err DiskFault) }
 {
     let length = journal.length(ROOT)?;
     if length != 0 {

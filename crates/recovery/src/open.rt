@@ -78,7 +78,8 @@ fn read_depot<D: Disk>(alloc: Global, journal: &mut D, archive: &mut D) -> Resul
     ensures archive_told { StillTells (D.says.seen archive.old) (D.says.seen archive.new) }
     ensures unfailed { UnlessFault result ((D.says.faults journal.new ≡ D.says.faults journal.old) ×
         (D.says.faults archive.new ≡ D.says.faults archive.old)) }
-    ensures cause { AreCauses (D.says.faults journal.old) (D.says.faults journal.new) (D.says.faults archive.old) (D.says.faults archive.new) (result ≡ Err DiskFault) }
+    ensures cause { AreCauses (D.says.faults journal.old) (D.says.faults journal.new) (D.says.faults archive.old)
+        (D.says.faults archive.new) (result ≡ Err DiskFault) }
 {
     journal.sync()?;
     archive.sync()?;
@@ -135,7 +136,8 @@ pub fn open_files<D: Disk>(alloc: Global, journal: D, archive: D) -> Result<Open
     ensures unfailed { (IsDiskFault result → ⊥) →
         (D.says.faults (journal_disk result) ≡ D.says.faults journal) ×
         (D.says.faults (archive_disk result) ≡ D.says.faults archive) }
-    ensures cause { AreCauses (D.says.faults journal) (D.says.faults (journal_disk result)) (D.says.faults archive) (D.says.faults (archive_disk result)) (IsDiskFault result) }
+    ensures cause { AreCauses (D.says.faults journal) (D.says.faults (journal_disk result)) (D.says.faults archive)
+        (D.says.faults (archive_disk result)) (IsDiskFault result) }
 {
     let mut journal = journal;
     let mut archive = archive;

@@ -172,7 +172,8 @@ impl FileGroups {
     /// there is none for the text of one of them.
     pub(crate) fn damaged_before(&self, alloc: Global, changes: &[Change]) -> OpenFault
         ensures file { IsOfFile self.now.file result }
-        ensures place { Tells (λ disk file place. place ≡ (self.now.reader.reached - length (body_of changes.now)) - self.now.front) result }
+        ensures place { Tells (λ disk file place. place ≡
+            (self.now.reader.reached - length (body_of changes.now)) - self.now.front) result }
         ensures no_disk { result ≢ DiskFault }
     {
         let mut place = self.reader.reached();

@@ -52,7 +52,8 @@ pub fn make_fitting(
 ) -> Result<usize, AllocError>
     ensures within { IfOk result (λ n. n ≤ length changes.now) }
     ensures fit { IfOk result (λ n. AllFitIn (rows_of_draft draft.old) (take n changes.now)) }
-    ensures rows { IfOk result (λ n. rows_of_draft draft.new ≡ changed_by (rows_of_draft draft.old) (take n changes.now)) }
+    ensures rows { IfOk result (λ n. rows_of_draft draft.new ≡
+        changed_by (rows_of_draft draft.old) (take n changes.now)) }
     ensures next { IfOk result (λ n. n < length changes.now →
         AllFitIn (rows_of_draft draft.old) (take (n + 1) changes.now) → ⊥) }
 {

@@ -102,7 +102,8 @@ fn compare_generation<D: Disk>(
     ensures up_looked { IsLooked D.says up.old up.new }
     ensures node_faults { D.says.faults (disk_of node.old) ≤ D.says.faults (disk_of node.new) }
     ensures up_faults { D.says.faults (disk_of up.old) ≤ D.says.faults (disk_of up.new) }
-    ensures cause { OnErr result (HasRisen (D.says.faults (disk_of node.old)) (D.says.faults (disk_of node.new)) ⊎ HasRisen (D.says.faults (disk_of up.old)) (D.says.faults (disk_of up.new))) }
+    ensures cause { OnErr result (HasRisen (D.says.faults (disk_of node.old)) (D.says.faults (disk_of node.new)) ⊎
+        HasRisen (D.says.faults (disk_of up.old)) (D.says.faults (disk_of up.new))) }
 {
     let mut node_scanned = Scanned::nothing();
     let mut up_scanned = Scanned::nothing();
@@ -130,7 +131,8 @@ fn first_departure<D: Disk>(
     ensures up_looked { IsLooked D.says up.old up.new }
     ensures node_faults { D.says.faults (disk_of node.old) ≤ D.says.faults (disk_of node.new) }
     ensures up_faults { D.says.faults (disk_of up.old) ≤ D.says.faults (disk_of up.new) }
-    ensures cause { OnErr result (HasRisen (D.says.faults (disk_of node.old)) (D.says.faults (disk_of node.new)) ⊎ HasRisen (D.says.faults (disk_of up.old)) (D.says.faults (disk_of up.new))) }
+    ensures cause { OnErr result (HasRisen (D.says.faults (disk_of node.old)) (D.says.faults (disk_of node.new)) ⊎
+        HasRisen (D.says.faults (disk_of up.old)) (D.says.faults (disk_of up.new))) }
 {
     let mut buffer = [0u8; PIECE];
     let mut other = [0u8; PIECE];
@@ -163,7 +165,8 @@ impl<D: Disk> Node<D> {
             (IsNode D.says self.old c → IsNode D.says self.new c) × (IsNode D.says up.old c → IsNode D.says up.new c) }
         ensures can { (CanFollow D.says self.old → CanFollow D.says self.new) ×
             (CanFollow D.says up.old → CanFollow D.says up.new) }
-        ensures node_faults { D.says.faults (disk_of self.old.link.journal) ≤ D.says.faults (disk_of self.new.link.journal) }
+        ensures node_faults { D.says.faults (disk_of self.old.link.journal) ≤
+            D.says.faults (disk_of self.new.link.journal) }
         ensures up_faults { D.says.faults (disk_of up.old.link.journal) ≤ D.says.faults (disk_of up.new.link.journal) }
         ensures cause { OnErr result (HasRisen (D.says.faults (disk_of self.old.link.journal)) (D.says.faults (disk_of self.new.link.journal)) ⊎ HasRisen (D.says.faults (disk_of up.old.link.journal)) (D.says.faults (disk_of up.new.link.journal))) }
     {

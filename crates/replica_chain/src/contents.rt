@@ -95,8 +95,10 @@ fn copy_piece<D: Disk, C: Contents>(
         ((bytes : List ℕ) → C.tells contents.new bytes → length bytes < spot_end_of spot)) }
     ensures only { IfErr result IsOfCopying }
     ensures looked { C.keeps contents.old contents.new }
-    ensures contents_cause { IsCause (C.faults contents.old) (C.faults contents.new) (result ≡ Err faults.ContentsFailed) }
-    ensures cause { IsCause (D.says.faults (disk_of archive.old)) (D.says.faults (disk_of archive.new)) (result ≡ Err faults.DiskFault) }
+    ensures contents_cause { IsCause (C.faults contents.old) (C.faults contents.new)
+        (result ≡ Err faults.ContentsFailed) }
+    ensures cause { IsCause (D.says.faults (disk_of archive.old)) (D.says.faults (disk_of archive.new))
+        (result ≡ Err faults.DiskFault) }
 {
     let text = match contents.content(alloc, spot) {
         Ok(text) => text,
@@ -126,8 +128,10 @@ fn copy_contents<D: Disk, C: Contents>(
         IsAbsent bytes (used_of archive.old) end place) }
     ensures only { IfErr result IsOfCopying }
     ensures contents_reached { Reaches C.keeps contents.old contents.new }
-    ensures contents_cause { IsCause (C.faults contents.old) (C.faults contents.new) (result ≡ Err faults.ContentsFailed) }
-    ensures cause { IsCause (D.says.faults (disk_of archive.old)) (D.says.faults (disk_of archive.new)) (result ≡ Err faults.DiskFault) }
+    ensures contents_cause { IsCause (C.faults contents.old) (C.faults contents.new)
+        (result ≡ Err faults.ContentsFailed) }
+    ensures cause { IsCause (D.says.faults (disk_of archive.old)) (D.says.faults (disk_of archive.new))
+        (result ≡ Err faults.DiskFault) }
 {
     let mut at = archive.used();
     while at < end {
@@ -153,7 +157,8 @@ pub(crate) fn check_content<D: Disk>(
     ensures only { IfErr result IsOfContents }
     ensures reads { OnlyReads D.says (disk_of archive.old) (disk_of archive.new) }
     ensures used { used_of archive.new ≡ used_of archive.old }
-    ensures cause { IsCause (D.says.faults (disk_of archive.old)) (D.says.faults (disk_of archive.new)) (result ≡ Err faults.DiskFault) }
+    ensures cause { IsCause (D.says.faults (disk_of archive.old)) (D.says.faults (disk_of archive.new))
+        (result ≡ Err faults.DiskFault) }
 {
     let spot = Spot {
         at: revision.at,
@@ -184,7 +189,8 @@ fn check_named<D: Disk>(
     ensures only { IfErr result IsOfContents }
     ensures reads { OnlyReads D.says (disk_of archive.old) (disk_of archive.new) }
     ensures used { used_of archive.new ≡ used_of archive.old }
-    ensures cause { IsCause (D.says.faults (disk_of archive.old)) (D.says.faults (disk_of archive.new)) (result ≡ Err faults.DiskFault) }
+    ensures cause { IsCause (D.says.faults (disk_of archive.old)) (D.says.faults (disk_of archive.new))
+        (result ≡ Err faults.DiskFault) }
 {
     match revision_of(change) {
         Some(revision) if change.row.live() => check_content(alloc, archive, revision),
@@ -205,7 +211,8 @@ fn check_contents<D: Disk>(
     ensures only { IfErr result IsOfContents }
     ensures reads { OnlyReads D.says (disk_of archive.old) (disk_of archive.new) }
     ensures used { used_of archive.new ≡ used_of archive.old }
-    ensures cause { IsCause (D.says.faults (disk_of archive.old)) (D.says.faults (disk_of archive.new)) (result ≡ Err faults.DiskFault) }
+    ensures cause { IsCause (D.says.faults (disk_of archive.old)) (D.says.faults (disk_of archive.new))
+        (result ≡ Err faults.DiskFault) }
 {
     for change in changes {
         check_named(alloc, archive, change)?;
@@ -231,8 +238,10 @@ pub(crate) fn bring_contents<D: Disk, C: Contents>(
         IsBadContent (files 0) changes.now place) }
     ensures only { IfErr result IsOfBringing }
     ensures contents_reached { Reaches C.keeps contents.old contents.new }
-    ensures contents_cause { IsCause (C.faults contents.old) (C.faults contents.new) (result ≡ Err faults.ContentsFailed) }
-    ensures cause { IsCause (D.says.faults (disk_of archive.old)) (D.says.faults (disk_of archive.new)) (result ≡ Err faults.DiskFault) }
+    ensures contents_cause { IsCause (C.faults contents.old) (C.faults contents.new)
+        (result ≡ Err faults.ContentsFailed) }
+    ensures cause { IsCause (D.says.faults (disk_of archive.old)) (D.says.faults (disk_of archive.new))
+        (result ≡ Err faults.DiskFault) }
 {
     let end = spots_end(changes);
     copy_contents(alloc, contents, archive, end)?;

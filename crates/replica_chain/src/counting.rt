@@ -146,7 +146,8 @@ fn fetch_some<D: Disk>(
         HasScanned D.says (disk_of journal.new) scanned.new }
     ensures only { IfErr result SaysNothing }
     ensures looked { IsLooked D.says journal.old journal.new }
-    ensures cause { IsCause (D.says.faults (disk_of journal.old)) (D.says.faults (disk_of journal.new)) (result ≡ Err DiskFault) }
+    ensures cause { IsCause (D.says.faults (disk_of journal.old)) (D.says.faults (disk_of journal.new))
+        (result ≡ Err DiskFault) }
 {
     match journal.fetch_on(scanned, generation, at, buffer) {
         Ok(Fetched::Bytes(count)) => {
@@ -176,7 +177,8 @@ fn count_generation<D: Disk>(
         IfOk result (λ count. (count.groups ≡ length groups) × (count.bytes ≡ length (groups_text 1 groups))) }
     ensures only { IfErr result SaysNothing }
     ensures looked { IsLooked D.says journal.old journal.new }
-    ensures cause { IsCause (D.says.faults (disk_of journal.old)) (D.says.faults (disk_of journal.new)) (result ≡ Err DiskFault) }
+    ensures cause { IsCause (D.says.faults (disk_of journal.old)) (D.says.faults (disk_of journal.new))
+        (result ≡ Err DiskFault) }
 {
     let mut scanned = Scanned::nothing();
     let mut counter = Counter::new(alloc);
@@ -222,7 +224,8 @@ fn count_through<D: Disk>(
         (counts.before.groups + counts.newest.groups + length c.closed ≡ length (changes_of c))) }
     ensures only { IfErr result SaysNothing }
     ensures looked { IsLooked D.says journal.old journal.new }
-    ensures cause { IsCause (D.says.faults (disk_of journal.old)) (D.says.faults (disk_of journal.new)) (result ≡ Err DiskFault) }
+    ensures cause { IsCause (D.says.faults (disk_of journal.old)) (D.says.faults (disk_of journal.new))
+        (result ≡ Err DiskFault) }
 {
     let last = journal.generation();
     let mut before = Count {
@@ -253,7 +256,8 @@ pub(crate) fn count_journal<D: Disk>(
         (counts.before.groups + counts.newest.groups + length c.closed ≡ length (changes_of c))) }
     ensures only { IfErr result SaysNothing }
     ensures looked { IsLooked D.says journal.old journal.new }
-    ensures cause { IsCause (D.says.faults (disk_of journal.old)) (D.says.faults (disk_of journal.new)) (result ≡ Err DiskFault) }
+    ensures cause { IsCause (D.says.faults (disk_of journal.old)) (D.says.faults (disk_of journal.new))
+        (result ≡ Err DiskFault) }
 {
     let mut buffer = vec![in alloc; 0u8; PIECE]?;
     let counts = count_through(alloc, journal, buffer.as_mut_slice());

@@ -108,7 +108,8 @@ impl<D: Disk> Node<D> {
         ensures archive_synced { IfOk result (λ node. HasSynced D.says archive (archive_disk result)) }
         ensures journal_looks { LooksOnly D.says journal (journal_disk result) }
         ensures archive_looks { LooksOnly D.says archive (archive_disk result) }
-        ensures cause { AreCauses (D.says.faults journal) (D.says.faults (journal_disk result)) (D.says.faults archive) (D.says.faults (archive_disk result)) (IsDiskFault result) }
+        ensures cause { AreCauses (D.says.faults journal) (D.says.faults (journal_disk result)) (D.says.faults archive)
+            (D.says.faults (archive_disk result)) (IsDiskFault result) }
     {
         match open_files(alloc, journal, archive) {
             Err(found) => {

@@ -52,13 +52,15 @@ fn write_next<D: Disk>(
     ensures checkpoint { AreRecords (puts_of (rows_of tables.now)) →
         OnOk result (IsCheckpointOf next (rows_of tables.now) (checkpoint_text next (rows_of tables.now))) }
     ensures any_moment { (was : Committed) → Stands D.says journal.old was nothing →
-        LeavesOnly D.says (disk_of journal.old) (disk_of journal.new) (HasEither was (with_generation was (checkpoint_text next (rows_of tables.now)))) }
+        LeavesOnly D.says (disk_of journal.old) (disk_of journal.new)
+        (HasEither was (with_generation was (checkpoint_text next (rows_of tables.now)))) }
     ensures keeps { (older : List (List (List ℕ))) → KeepsOlder D.says journal.old older → IsErr result →
         KeepsOlder D.says journal.new older }
     ensures closes { (was : Committed) (older : List (List (List ℕ))) → Stands D.says journal.old was nothing →
         KeepsOlder D.says journal.old older → OnOk result (KeepsOlder D.says journal.new (older ++ was.groups ∷ [])) }
     ensures only { IfErr result (λ fault. (fault ≡ faults.DiskFault) ⊎ (fault ≡ faults.Memory)) }
-    ensures cause { IsCause (D.says.faults (disk_of journal.old)) (D.says.faults (disk_of journal.new)) (result ≡ Err faults.DiskFault) }
+    ensures cause { IsCause (D.says.faults (disk_of journal.old)) (D.says.faults (disk_of journal.new))
+        (result ≡ Err faults.DiskFault) }
 {
     let text = print_generation(alloc, tables, next)?;
     match write_generation(journal, &text) {
@@ -82,7 +84,8 @@ impl<D: Disk> Node<D> {
         ensures behind { (c : Chronicle) (up : Upstream) → IsBehind D.says self.old c up →
             IsEarlier (texts_of (with_beginning c)) up.texts →
             GoesOnBehind D.says self.old self.new c up (λ texts. texts ≡ up.texts) (λ bytes. bytes ≡ up.bytes) }
-        ensures cause { IsCause (D.says.faults (disk_of self.old.link.journal)) (D.says.faults (disk_of self.new.link.journal)) (result ≡ Err faults.DiskFault) }
+        ensures cause { IsCause (D.says.faults (disk_of self.old.link.journal))
+            (D.says.faults (disk_of self.new.link.journal)) (result ≡ Err faults.DiskFault) }
     {
         let generation = self.link.journal.generation();
         if generation >= LAST {

@@ -55,7 +55,8 @@ impl<D: Disk> Node<D> {
     ) -> Result<(), NodeFault>
         requires can { CanFollow D.says self.old }
         requires settled { IsSettled D.says self.old }
-        ensures filled { IsFilled D.says (C.tells contents.old) (C.tells contents.new) self.old.archive self.new.archive }
+        ensures filled { IsFilled D.says (C.tells contents.old)
+            (C.tells contents.new) self.old.archive self.new.archive }
         ensures brought { OnOk result (AreBrought D.says self.new.archive changes.now) }
         ensures others { self.new ≡ record self.old { link = self.new.link; archive = self.new.archive } }
         // The group is behind what was committed; or it isn't, or is in doubt, with its contents in the archive.
@@ -65,7 +66,8 @@ impl<D: Disk> Node<D> {
             OnErr result (IsStill D.says self.old.link.journal self.new.link.journal was
             ⊎ (Stands D.says self.new.link.journal was (group (group_text (length was.groups + 1) changes.now)) × AreBrought D.says self.new.archive changes.now)) }
         ensures any_moment { (was : Committed) → Stands D.says self.old.link.journal was nothing →
-            LeavesOnly D.says (disk_of self.old.link.journal) (disk_of self.new.link.journal) (HasEither was (with_group was (group_text (length was.groups + 1) changes.now))) }
+            LeavesOnly D.says (disk_of self.old.link.journal) (disk_of self.new.link.journal)
+            (HasEither was (with_group was (group_text (length was.groups + 1) changes.now))) }
         ensures older { (older : List (List (List ℕ))) → KeepsOlder D.says self.old.link.journal older →
             KeepsOlder D.says self.new.link.journal older }
         ensures scanned { KeepsScanned D.says self.old.link self.new.link }
@@ -75,8 +77,11 @@ impl<D: Disk> Node<D> {
             D.says.seen (archive_disk_of self.new.archive) files → IsBadContent (files 0) changes.now place) }
         ensures only { IfErr result IsOfBringing }
         ensures contents_reached { Reaches C.keeps contents.old contents.new }
-        ensures contents_cause { IsCause (C.faults contents.old) (C.faults contents.new) (result ≡ Err faults.ContentsFailed) }
-        ensures cause { AreCauses (D.says.faults (disk_of self.old.link.journal)) (D.says.faults (disk_of self.new.link.journal)) (D.says.faults (archive_disk_of self.old.archive)) (D.says.faults (archive_disk_of self.new.archive)) (result ≡ Err faults.DiskFault) }
+        ensures contents_cause { IsCause (C.faults contents.old) (C.faults contents.new)
+            (result ≡ Err faults.ContentsFailed) }
+        ensures cause { AreCauses (D.says.faults (disk_of self.old.link.journal))
+            (D.says.faults (disk_of self.new.link.journal)) (D.says.faults (archive_disk_of self.old.archive))
+            (D.says.faults (archive_disk_of self.new.archive)) (result ≡ Err faults.DiskFault) }
     {
         bring_contents(alloc, contents, &mut self.archive, changes)?;
         let prepared = self.link.journal.prepare(alloc, changes)?;
@@ -111,11 +116,15 @@ impl<D: Disk> Node<D> {
         // Where it is the next group upstream, the node stays behind that.
         ensures behind { (c : Chronicle) (up : Upstream) → C.tells contents.old up.bytes →
             IsBehind D.says self.old c up →
-            Has (text_of up.texts (length c.closed)) (record { at = self.old.at; length = end - self.old.at }) (mark open_byte ++ group_text self.old.number changes.now) →
+            Has (text_of up.texts (length c.closed)) (record { at = self.old.at; length = end - self.old.at })
+            (mark open_byte ++ group_text self.old.number changes.now) →
             GoesOnBehind D.says self.old self.new c up (λ texts. texts ≡ up.texts) (C.tells contents.new) }
         ensures contents_reached { Reaches C.keeps contents.old contents.new }
-        ensures contents_cause { IsCause (C.faults contents.old) (C.faults contents.new) (result ≡ Err faults.ContentsFailed) }
-        ensures cause { AreCauses (D.says.faults (disk_of self.old.link.journal)) (D.says.faults (disk_of self.new.link.journal)) (D.says.faults (archive_disk_of self.old.archive)) (D.says.faults (archive_disk_of self.new.archive)) (result ≡ Err faults.DiskFault) }
+        ensures contents_cause { IsCause (C.faults contents.old) (C.faults contents.new)
+            (result ≡ Err faults.ContentsFailed) }
+        ensures cause { AreCauses (D.says.faults (disk_of self.old.link.journal))
+            (D.says.faults (disk_of self.new.link.journal)) (D.says.faults (archive_disk_of self.old.archive))
+            (D.says.faults (archive_disk_of self.new.archive)) (result ≡ Err faults.DiskFault) }
     {
         let tables = tables_after(alloc, &self.tables, changes, end)?;
         match self.commit_group(alloc, contents, changes) {
@@ -161,11 +170,15 @@ impl<D: Disk> Node<D> {
         // stands there behind it.
         ensures behind { (c : Chronicle) (up : Upstream) → C.tells contents.old up.bytes →
             IsBehind D.says self.old c up →
-            Has (text_of up.texts (length c.closed)) (record { at = reader.old.at; length = length reader.old.left }) reader.old.left →
+            Has (text_of up.texts (length c.closed))
+            (record { at = reader.old.at; length = length reader.old.left }) reader.old.left →
             GoesOnBehind D.says self.old self.new c up (λ texts. texts ≡ up.texts) (C.tells contents.new) }
         ensures contents_reached { Reaches C.keeps contents.old contents.new }
-        ensures contents_cause { IsCause (C.faults contents.old) (C.faults contents.new) (result ≡ Err faults.ContentsFailed) }
-        ensures cause { AreCauses (D.says.faults (disk_of self.old.link.journal)) (D.says.faults (disk_of self.new.link.journal)) (D.says.faults (archive_disk_of self.old.archive)) (D.says.faults (archive_disk_of self.new.archive)) (result ≡ Err faults.DiskFault) }
+        ensures contents_cause { IsCause (C.faults contents.old) (C.faults contents.new)
+            (result ≡ Err faults.ContentsFailed) }
+        ensures cause { AreCauses (D.says.faults (disk_of self.old.link.journal))
+            (D.says.faults (disk_of self.new.link.journal)) (D.says.faults (archive_disk_of self.old.archive))
+            (D.says.faults (archive_disk_of self.new.archive)) (result ≡ Err faults.DiskFault) }
     {
         let mut count = 0u64;
         while let Some(changes) = next_changes(alloc, reader, &self.tables)? {
@@ -194,11 +207,15 @@ impl<D: Disk> Node<D> {
         // Where the piece stands upstream behind the rest, the node stays behind that.
         ensures behind { (c : Chronicle) (up : Upstream) → C.tells contents.old up.bytes →
             IsBehind D.says self.old c up →
-            Has (text_of up.texts (length c.closed)) (record { at = self.old.at + length self.old.rest; length = length piece.now }) piece.now →
+            Has (text_of up.texts (length c.closed))
+            (record { at = self.old.at + length self.old.rest; length = length piece.now }) piece.now →
             GoesOnBehind D.says self.old self.new c up (λ texts. texts ≡ up.texts) (C.tells contents.new) }
         ensures contents_reached { Reaches C.keeps contents.old contents.new }
-        ensures contents_cause { IsCause (C.faults contents.old) (C.faults contents.new) (result ≡ Err faults.ContentsFailed) }
-        ensures cause { AreCauses (D.says.faults (disk_of self.old.link.journal)) (D.says.faults (disk_of self.new.link.journal)) (D.says.faults (archive_disk_of self.old.archive)) (D.says.faults (archive_disk_of self.new.archive)) (result ≡ Err faults.DiskFault) }
+        ensures contents_cause { IsCause (C.faults contents.old) (C.faults contents.new)
+            (result ≡ Err faults.ContentsFailed) }
+        ensures cause { AreCauses (D.says.faults (disk_of self.old.link.journal))
+            (D.says.faults (disk_of self.new.link.journal)) (D.says.faults (archive_disk_of self.old.archive))
+            (D.says.faults (archive_disk_of self.new.archive)) (result ≡ Err faults.DiskFault) }
     {
         let rest = replace(&mut self.rest, Text::new(alloc));
         let size = (rest.len() + piece.len()) as u64;
@@ -226,7 +243,8 @@ impl<D: Disk> Node<D> {
         requires most { length buffer.old ≤ 65536 }
         ensures can { CanFollow D.says self.new }
         ensures followed { IfOk result (HasFollowed L.says link.new self.old self.new) }
-        ensures stopped { IfErr result (λ fault. IsUnread self.old self.new fault ⊎ HasStopped D.says L.says (C.tells contents.new) link.new self.old self.new fault) }
+        ensures stopped { IfErr result (λ fault. IsUnread self.old self.new fault ⊎
+            HasStopped D.says L.says (C.tells contents.new) link.new self.old self.new fault) }
         ensures node { (c : Chronicle) → IsNode D.says self.old c → HasNoFewer D.says self.new c }
         ensures keeps { KeepsContents D.says self.old.archive self.new.archive }
         ensures behind { (c : Chronicle) (up : Upstream) → L.says.tells link.old up.texts →
@@ -235,8 +253,11 @@ impl<D: Disk> Node<D> {
         ensures link_reached { Reaches L.says.keeps link.old link.new }
         ensures link_cause { IsCause (L.says.faults link.old) (L.says.faults link.new) (result ≡ Err faults.LinkFault) }
         ensures contents_reached { Reaches C.keeps contents.old contents.new }
-        ensures contents_cause { IsCause (C.faults contents.old) (C.faults contents.new) (result ≡ Err faults.ContentsFailed) }
-        ensures cause { AreCauses (D.says.faults (disk_of self.old.link.journal)) (D.says.faults (disk_of self.new.link.journal)) (D.says.faults (archive_disk_of self.old.archive)) (D.says.faults (archive_disk_of self.new.archive)) (result ≡ Err faults.DiskFault) }
+        ensures contents_cause { IsCause (C.faults contents.old) (C.faults contents.new)
+            (result ≡ Err faults.ContentsFailed) }
+        ensures cause { AreCauses (D.says.faults (disk_of self.old.link.journal))
+            (D.says.faults (disk_of self.new.link.journal)) (D.says.faults (archive_disk_of self.old.archive))
+            (D.says.faults (archive_disk_of self.new.archive)) (result ≡ Err faults.DiskFault) }
     {
         let awaited = self.at + self.rest.len() as u64;
         let generation = self.link.journal.generation();
@@ -267,7 +288,8 @@ impl<D: Disk> Node<D> {
         requires can { CanFollow D.says self.old }
         ensures can { CanFollow D.says self.new }
         ensures followed { IfOk result (HasFollowed L.says link.new self.old self.new) }
-        ensures stopped { IfErr result (λ fault. IsUnread self.old self.new fault ⊎ HasStopped D.says L.says (C.tells contents.new) link.new self.old self.new fault) }
+        ensures stopped { IfErr result (λ fault. IsUnread self.old self.new fault ⊎
+            HasStopped D.says L.says (C.tells contents.new) link.new self.old self.new fault) }
         ensures node { (c : Chronicle) → IsNode D.says self.old c → HasNoFewer D.says self.new c }
         ensures keeps { KeepsContents D.says self.old.archive self.new.archive }
         ensures behind { (c : Chronicle) (up : Upstream) → L.says.tells link.old up.texts →
@@ -276,8 +298,11 @@ impl<D: Disk> Node<D> {
         ensures link_reached { Reaches L.says.keeps link.old link.new }
         ensures link_cause { IsCause (L.says.faults link.old) (L.says.faults link.new) (result ≡ Err faults.LinkFault) }
         ensures contents_reached { Reaches C.keeps contents.old contents.new }
-        ensures contents_cause { IsCause (C.faults contents.old) (C.faults contents.new) (result ≡ Err faults.ContentsFailed) }
-        ensures cause { AreCauses (D.says.faults (disk_of self.old.link.journal)) (D.says.faults (disk_of self.new.link.journal)) (D.says.faults (archive_disk_of self.old.archive)) (D.says.faults (archive_disk_of self.new.archive)) (result ≡ Err faults.DiskFault) }
+        ensures contents_cause { IsCause (C.faults contents.old) (C.faults contents.new)
+            (result ≡ Err faults.ContentsFailed) }
+        ensures cause { AreCauses (D.says.faults (disk_of self.old.link.journal))
+            (D.says.faults (disk_of self.new.link.journal)) (D.says.faults (archive_disk_of self.old.archive))
+            (D.says.faults (archive_disk_of self.new.archive)) (result ≡ Err faults.DiskFault) }
     {
         let mut piece = vec![in alloc; 0u8; PIECE]?;
         self.link.scanned = Scanned::nothing();
@@ -302,7 +327,8 @@ impl<D: Disk> Node<D> {
         // What was done is what the link answered, of the journal as its depot had it then.
         ensures followed { IfOk result (HasFollowed L.says link.new self.old self.new) }
         // Why it stopped, and how far it had come.
-        ensures stopped { IfErr result (λ fault. IsUnread self.old self.new fault ⊎ HasStopped D.says L.says (C.tells contents.new) link.new self.old self.new fault) }
+        ensures stopped { IfErr result (λ fault. IsUnread self.old self.new fault ⊎
+            HasStopped D.says L.says (C.tells contents.new) link.new self.old self.new fault) }
         ensures given_up { OnErr result (self.new.rest ≡ []) }
 
         // It has whole changes, no fewer than before.
@@ -319,8 +345,11 @@ impl<D: Disk> Node<D> {
         ensures contents_reached { Reaches C.keeps contents.old contents.new }
 
         ensures link_cause { IsCause (L.says.faults link.old) (L.says.faults link.new) (result ≡ Err faults.LinkFault) }
-        ensures contents_cause { IsCause (C.faults contents.old) (C.faults contents.new) (result ≡ Err faults.ContentsFailed) }
-        ensures cause { AreCauses (D.says.faults (disk_of self.old.link.journal)) (D.says.faults (disk_of self.new.link.journal)) (D.says.faults (archive_disk_of self.old.archive)) (D.says.faults (archive_disk_of self.new.archive)) (result ≡ Err faults.DiskFault) }
+        ensures contents_cause { IsCause (C.faults contents.old) (C.faults contents.new)
+            (result ≡ Err faults.ContentsFailed) }
+        ensures cause { AreCauses (D.says.faults (disk_of self.old.link.journal))
+            (D.says.faults (disk_of self.new.link.journal)) (D.says.faults (archive_disk_of self.old.archive))
+            (D.says.faults (archive_disk_of self.new.archive)) (result ≡ Err faults.DiskFault) }
     {
         match self.pull_on(alloc, link, contents) {
             Ok(moved) => Ok(moved),

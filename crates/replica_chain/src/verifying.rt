@@ -38,7 +38,8 @@ fn verify_row<D: Disk>(
     ensures only { IfErr result IsOfContents }
     ensures reads { OnlyReads D.says (disk_of archive.old) (disk_of archive.new) }
     ensures used { used_of archive.new ≡ used_of archive.old }
-    ensures cause { IsCause (D.says.faults (disk_of archive.old)) (D.says.faults (disk_of archive.new)) (result ≡ Err faults.DiskFault) }
+    ensures cause { IsCause (D.says.faults (disk_of archive.old)) (D.says.faults (disk_of archive.new))
+        (result ≡ Err faults.DiskFault) }
 {
     match row {
         Record::Rev(revision) if row.live() => {
@@ -66,7 +67,8 @@ fn verify_rows<D: Disk>(
     ensures only { IfErr result IsOfContents }
     ensures reads { OnlyReads D.says (disk_of archive.old) (disk_of archive.new) }
     ensures used { used_of archive.new ≡ used_of archive.old }
-    ensures cause { IsCause (D.says.faults (disk_of archive.old)) (D.says.faults (disk_of archive.new)) (result ≡ Err faults.DiskFault) }
+    ensures cause { IsCause (D.says.faults (disk_of archive.old)) (D.says.faults (disk_of archive.new))
+        (result ≡ Err faults.DiskFault) }
 {
     let mut count = 0u64;
     for row in tables.version(TableId::Rev).rows() {
@@ -97,7 +99,8 @@ impl<D: Disk> Node<D> {
         ensures used { used_of self.new.archive ≡ used_of self.old.archive }
         ensures node { (c : Chronicle) → IsNode D.says self.old c → IsNode D.says self.new c }
         ensures can { CanFollow D.says self.old → CanFollow D.says self.new }
-        ensures cause { IsCause (D.says.faults (disk_of self.old.archive)) (D.says.faults (disk_of self.new.archive)) (result ≡ Err faults.DiskFault) }
+        ensures cause { IsCause (D.says.faults (disk_of self.old.archive)) (D.says.faults (disk_of self.new.archive))
+            (result ≡ Err faults.DiskFault) }
     {
         verify_rows(alloc, &mut self.archive, &self.tables)
     }

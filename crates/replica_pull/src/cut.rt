@@ -24,7 +24,8 @@ fn is_inside(alloc: Global, filter: &Filter, text: &[u8]) -> Result<bool, AllocE
 
 /// Whether two texts are paths inside the filter.
 fn are_inside(alloc: Global, filter: &Filter, a: &[u8], b: &[u8]) -> Result<bool, AllocError>
-    ensures { IfOk result (λ inside. inside ≡ (depot_cut.is_text_inside filter.now a.now && depot_cut.is_text_inside filter.now b.now)) }
+    ensures { IfOk result (λ inside. inside ≡
+        (depot_cut.is_text_inside filter.now a.now && depot_cut.is_text_inside filter.now b.now)) }
 {
     let first = is_inside(alloc, filter, a)?;
     let second = is_inside(alloc, filter, b)?;

@@ -65,7 +65,8 @@ fn make_fitting(
 ) -> Result<usize, AllocError>
     ensures within { IfOk result (λ n. n ≤ length changes.now) }
     ensures fit { IfOk result (λ n. Fit filter.now (rows_of_draft draft.old) (take n changes.now)) }
-    ensures rows { IfOk result (λ n. rows_of_draft draft.new ≡ changed_cut filter.now (rows_of_draft draft.old) (take n changes.now)) }
+    ensures rows { IfOk result (λ n. rows_of_draft draft.new ≡
+        changed_cut filter.now (rows_of_draft draft.old) (take n changes.now)) }
     ensures next { IfOk result (λ n. n < length changes.now →
         Fit filter.now (rows_of_draft draft.old) (take (n + 1) changes.now) → ⊥) }
 {
@@ -100,7 +101,8 @@ fn make_changes(
     end: u64,
 ) -> Result<(), PullFault>
     ensures fit { OnOk result (Fit filter.now (rows_of_draft draft.old) changes.now) }
-    ensures rows { OnOk result (rows_of_draft draft.new ≡ changed_cut filter.now (rows_of_draft draft.old) changes.now) }
+    ensures rows { OnOk result (rows_of_draft draft.new ≡
+        changed_cut filter.now (rows_of_draft draft.old) changes.now) }
     ensures bad { IfBadFeed result (IsFirstMisfit (Fit filter.now (rows_of_draft draft.old)) changes.now end) }
     ensures only { IfErr result IsOfFeed }
 {

@@ -35,7 +35,8 @@ pub fn cut_changes_make_cut_rows()
 /// generation that it passes.
 pub fn replicas_keep_cut_rows()
     ensures begun { (rules : List FilterRule) (r : Replica) → IsNew rules r → AreCut rules no_rows (rows_of r.tables) }
-    ensures taken { (old new : Replica) (piece : List ℕ) (count : ℕ) (whole : AllRows) (has : HasTakenPiece old piece count new) →
+    ensures taken { (old new : Replica) (piece : List ℕ) (count : ℕ) (whole : AllRows)
+        (has : HasTakenPiece old piece count new) →
         AreCut old.filter whole (rows_of old.tables) →
         AreCut new.filter (changed_by whole (joined has.groups)) (rows_of new.tables) }
     ensures passed { (old new : Replica) (whole : AllRows) → HasPassed old new →
@@ -65,14 +66,16 @@ pub fn replicas_take_whole_groups()
 pub fn replicas_have_a_prefix()
     ensures prefix { (rules : List FilterRule) (journal : List (List ℕ)) (r : Replica) (moments : List Moment) →
         HasFollowed rules journal r moments → HasPrefix rules journal r }
-    ensures first { (rules : List FilterRule) (journal : List (List ℕ)) (generations : List (List (List Change))) (r : Replica) →
+    ensures first { (rules : List FilterRule) (journal : List (List ℕ)) (generations : List (List (List Change)))
+        (r : Replica) →
         HasPrefix rules journal r → IsJournalOf journal generations → HasFirst rules generations r }
 {}
 
 /// A master's journal is never a bad feed: a replica that has followed it can take each piece of it that stands where
 /// it awaits its next one, whatever was committed since.
 pub fn journals_are_good_feeds()
-    ensures { (rules : List FilterRule) (journal earlier : List (List ℕ)) (generations : List (List (List Change))) (r : Replica) (buffer : List ℕ) (n place : ℕ) →
+    ensures { (rules : List FilterRule) (journal earlier : List (List ℕ)) (generations : List (List (List Change)))
+        (r : Replica) (buffer : List ℕ) (n place : ℕ) →
         HasPrefix rules journal r → IsGoodJournal journal generations → IsEarlier earlier journal →
         Answers earlier r.generation r.at (Bytes n) buffer → IsBadPiece r (take n buffer) place → ⊥ }
 {}

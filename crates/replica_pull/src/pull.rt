@@ -93,7 +93,8 @@ fn tell_generation(
     generation: u32,
     draft: &mut TablesDraft,
 ) -> Result<(), AllocError>
-    ensures rows { IfOk result (λ done. rows_of_draft draft.new ≡ changed_in (rows_of_draft draft.old) (beginning generation)) }
+    ensures rows { IfOk result (λ done. rows_of_draft draft.new ≡
+        changed_in (rows_of_draft draft.old) (beginning generation)) }
     ensures end { draft.new.archive_end ≡ draft.old.archive_end }
 {
     let put = tell(alloc, Op::Put, generation, draft)?;
@@ -275,7 +276,8 @@ impl Replica {
         ensures kept { OnErr result (self.new ≡ self.old) }
         ensures never_falls { self.old.changes ≤ self.new.changes }
         // Why nothing was done.
-        ensures stopped { IfErr result (λ fault. IsUnread fault ⊎ ((fetched : Fetched) × ((piece : List ℕ) × (IsStopped self.old fetched piece fault ×
+        ensures stopped { IfErr result (λ fault. IsUnread fault ⊎
+            ((fetched : Fetched) × ((piece : List ℕ) × (IsStopped self.old fetched piece fault ×
             ((now : List (List ℕ)) → L.says.tells link.new now → (earlier : List (List ℕ)) × (IsEarlier earlier now × Answers earlier self.old.generation self.old.at fetched piece)))))) }
         ensures cause { IsCause (L.says.faults link.old) (L.says.faults link.new) (result ≡ Err faults.LinkFault) }
         ensures grows { (before : List (List ℕ)) → L.says.tells link.old before →
@@ -298,7 +300,8 @@ impl Replica {
         ensures kept { OnErr result (self.new ≡ self.old) }
         ensures never_falls { self.old.changes ≤ self.new.changes }
         // Why nothing was done.
-        ensures stopped { IfErr result (λ fault. IsUnread fault ⊎ ((fetched : Fetched) × ((piece : List ℕ) × (IsStopped self.old fetched piece fault ×
+        ensures stopped { IfErr result (λ fault. IsUnread fault ⊎
+            ((fetched : Fetched) × ((piece : List ℕ) × (IsStopped self.old fetched piece fault ×
             ((now : List (List ℕ)) → L.says.tells link.new now → (earlier : List (List ℕ)) × (IsEarlier earlier now × Answers earlier self.old.generation self.old.at fetched piece)))))) }
         ensures cause { IsCause (L.says.faults link.old) (L.says.faults link.new) (result ≡ Err faults.LinkFault) }
         // A master's journal is never a bad feed to a replica that has followed it.

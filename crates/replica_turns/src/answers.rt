@@ -51,7 +51,8 @@ pub(crate) fn fault_reply(alloc: Global, number: u32) -> Result<Text, AllocError
 
 /// The answer to the `print` of that number for which the archive has not the content at this place.
 pub(crate) fn tells_bad(alloc: Global, at: u64, number: u32) -> Result<Answered, AllocError>
-    ensures { IfOk result (λ answered. answered ≡ record { text = printed (refusal_row (BadArchive at) ∷ []) number; lost = false }) }
+    ensures { IfOk result (λ answered. answered ≡
+        record { text = printed (refusal_row (BadArchive at) ∷ []) number; lost = false }) }
 {
     let row = RowBuilder::new(alloc)
         .number(b"code", 38)?

@@ -37,14 +37,16 @@ use outside_api::{Clock, Disk};
 /// A depot that replicas follow stays one when it takes a command: where rows differ after it, its journal has one
 /// change more, and else the changes that it had; where it takes none, they stay. So its journal's texts grow.
 pub fn depots_grow_by_their_changes<D: Disk>()
-    ensures placed { (past : Past) (start : List Deed) (places : List Placed) (old new : AnyDepot D) (c : Chronicle) (since : ℕ) (request : Request) (outcome : Outcome) (fault : Bool) →
+    ensures placed { (past : Past) (start : List Deed) (places : List Placed) (old new : AnyDepot D) (c : Chronicle)
+        (since : ℕ) (request : Request) (outcome : Outcome) (fault : Bool) →
         IsMaster D.says past start places old c → HasRun D.says old since start places →
         IsOutcome (rows_of old.tables) old.tables.archive_end (taken step start places) request outcome →
         KeepsStored D.says old.archive new.archive →
         HasRun D.says new since start (places ++ placed_by request fault ∷ []) →
         AreRowsAfter (rows_of old.tables) outcome.changes fault (rows_of new.tables) →
         HasGroups D.says new.journal (grown (opens_generation request) fault outcome.changes c) →
-        IsMaster D.says past start (places ++ placed_by request fault ∷ []) new (grown (opens_generation request) fault outcome.changes c) }
+        IsMaster D.says past start (places ++ placed_by request fault ∷ []) new
+        (grown (opens_generation request) fault outcome.changes c) }
     ensures kept { (past : Past) (start : List Deed) (places : List Placed) (old new : AnyDepot D) (c : Chronicle) →
         IsMaster D.says past start places old c → rows_of new.tables ≡ rows_of old.tables →
         HasGroups D.says new.journal c → KeepsStored D.says old.archive new.archive →
@@ -57,7 +59,8 @@ pub fn depots_grow_by_their_changes<D: Disk>()
 /// images has the changes that were done before and then those among the places, or one more, which a fault place among
 /// them would have done.
 pub fn depots_leave_what_was_written<D: Disk>()
-    ensures { (past : Past) (start : List Deed) (places : List Placed) (depot : AnyDepot D) (c : Chronicle) (since : ℕ) →
+    ensures { (past : Past) (start : List Deed) (places : List Placed) (depot : AnyDepot D) (c : Chronicle)
+        (since : ℕ) →
         HasRun D.says depot since start places → IsMaster D.says past start places depot c →
         Leave D.says (disk_of depot.journal) (archive_disk_of depot.archive) (PairGoesOn past start places) }
 {}
@@ -67,17 +70,22 @@ pub fn depots_leave_what_was_written<D: Disk>()
 /// commands are answered after numbers of places that don't fall, the last of them after all places, and each `pull`
 /// that tells a position took of the journal as it is after so many.
 pub fn replicas_reply_for_their_last_pull<D: Disk, C: Clock>(clock: &C)
-    ensures first { (past : Past) (start : List Deed) (places : List Placed) (party : ℕ) (script : ReplicaScript) (p : ReplicaParty) (c : Chronicle) →
+    ensures first { (past : Past) (start : List Deed) (places : List Placed) (party : ℕ) (script : ReplicaScript)
+        (p : ReplicaParty) (c : Chronicle) →
         IsFresh (C.says.may_give clock.now) party script p → AreWellFormed script.session.commands →
         IsAlong past start places (C.says.may_give clock.now) party script p c [] [] }
-    ensures grown { (past : Past) (start : List Deed) (places more : List Placed) (party : ℕ) (script : ReplicaScript) (p : ReplicaParty) (c now : Chronicle) (counts : List ℕ) (texts : List (List ℕ)) →
+    ensures grown { (past : Past) (start : List Deed) (places more : List Placed) (party : ℕ) (script : ReplicaScript)
+        (p : ReplicaParty) (c now : Chronicle) (counts : List ℕ) (texts : List (List ℕ)) →
         HasGrownTo c now → IsAlong past start places (C.says.may_give clock.now) party script p c counts texts →
         IsAlong past start (places ++ more) (C.says.may_give clock.now) party script p now counts texts }
-    ensures turned { (past : Past) (start : List Deed) (places : List Placed) (depot : AnyDepot D) (bytes : List ℕ) (party : ℕ) (script : ReplicaScript) (old new : ReplicaParty) (c : Chronicle) (counts : List ℕ) (texts : List (List ℕ)) (result : Result Answered (Unit {0})) →
+    ensures turned { (past : Past) (start : List Deed) (places : List Placed) (depot : AnyDepot D) (bytes : List ℕ)
+        (party : ℕ) (script : ReplicaScript) (old new : ReplicaParty) (c : Chronicle) (counts : List ℕ)
+        (texts : List (List ℕ)) (result : Result Answered (Unit {0})) →
         IsMaster D.says past start places depot c → IsTold D.says depot.archive bytes →
         IsAlong past start places (C.says.may_give clock.now) party script old c counts texts →
         IsTurned D.says depot old new result →
-        IsAlong past start places (C.says.may_give clock.now) party script new c (counts ++ length places ∷ []) (texts ++ reply_text result (length texts + 1) ∷ []) }
+        IsAlong past start places (C.says.may_give clock.now) party script new c (counts ++ length places ∷ [])
+        (texts ++ reply_text result (length texts + 1) ∷ []) }
 {
     // the clauses alone speak of it
     let _clock = clock;
@@ -87,7 +95,8 @@ pub fn replicas_reply_for_their_last_pull<D: Disk, C: Clock>(clock: &C)
 /// replica that has followed it, unless it tells that a disk failed or that there was no memory, takes at least one
 /// byte of what is committed then, passes to the next generation, or finds all of it taken.
 pub fn pulls_move<D: Disk>()
-    ensures { (depot : AnyDepot D) (c : Chronicle) (rules : List FilterRule) (moments : List Moment) (old new : ReplicaParty) (result : Result Answered (Unit {0})) →
+    ensures { (depot : AnyDepot D) (c : Chronicle) (rules : List FilterRule) (moments : List Moment)
+        (old new : ReplicaParty) (result : Result Answered (Unit {0})) →
         HasGroups D.says depot.journal c → IsGoodJournal (texts_in c) (generations_of c) →
         HasFollowed rules (texts_in c) old.replica moments →
         (turn : IsTurned D.says depot old new result) → IsFormedBy turn.request → pulls turn.request.command ≡ true →

@@ -97,10 +97,12 @@ impl ReplicaParty {
         ensures answered { (depot : AnyDepot D) → depot.archive ≡ archive.old → IsFormedBy request.now →
             IfOk result (λ answered. IsAnsweredBy (λ been. been ≡ depot) D.says self.now.replica self.now.replica request.now answered.text answered.lost) }
         ensures read { IsRead D.says archive.old archive.new }
-        ensures never_falls { D.says.faults (archive_disk_of archive.old) ≤ D.says.faults (archive_disk_of archive.new) }
+        ensures never_falls { D.says.faults (archive_disk_of archive.old) ≤
+            D.says.faults (archive_disk_of archive.new) }
         ensures only { IfOk result (λ answered. answered.lost ≡ false →
             D.says.faults (archive_disk_of archive.new) ≡ D.says.faults (archive_disk_of archive.old)) }
-        ensures no_memory { OnErr result (D.says.faults (archive_disk_of archive.new) ≡ D.says.faults (archive_disk_of archive.old)) }
+        ensures no_memory { OnErr result
+            (D.says.faults (archive_disk_of archive.new) ≡ D.says.faults (archive_disk_of archive.old)) }
         ensures cause { IfOk result (λ answered. answered.lost ≡ true →
             HasRisen (D.says.faults (archive_disk_of archive.old)) (D.says.faults (archive_disk_of archive.new))) }
     {
@@ -165,11 +167,13 @@ impl ReplicaParty {
         ensures left { 0 < length self.old.left.items → length self.old.left.items ≡ length self.new.left.items + 1 }
         ensures done { self.old.left.items ≡ [] → (self.new ≡ self.old) × (depot.new ≡ depot.old) }
         ensures never_falls { D.says.faults (disk_of depot.old.journal) ≤ D.says.faults (disk_of depot.new.journal) }
-        ensures never_falls_contents { D.says.faults (archive_disk_of depot.old.archive) ≤ D.says.faults (archive_disk_of depot.new.archive) }
+        ensures never_falls_contents { D.says.faults (archive_disk_of depot.old.archive) ≤
+            D.says.faults (archive_disk_of depot.new.archive) }
         ensures only { IfOk result (λ answered. answered.lost ≡ false → HaveStood D.says depot.old depot.new) }
         ensures no_memory { OnErr result (HaveStood D.says depot.old depot.new) }
         ensures cause { IfOk result (λ answered. answered.lost ≡ true →
-            HasRisen (D.says.faults (disk_of depot.old.journal)) (D.says.faults (disk_of depot.new.journal)) ⊎ HasRisen (D.says.faults (archive_disk_of depot.old.archive)) (D.says.faults (archive_disk_of depot.new.archive))) }
+            HasRisen (D.says.faults (disk_of depot.old.journal)) (D.says.faults (disk_of depot.new.journal)) ⊎
+            HasRisen (D.says.faults (archive_disk_of depot.old.archive)) (D.says.faults (archive_disk_of depot.new.archive))) }
     {
         if self.left.is_empty() {
             return Err(AllocError);

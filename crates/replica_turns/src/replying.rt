@@ -58,7 +58,8 @@ pub(crate) fn reply_print<D: Disk>(
     ensures never_falls { D.says.faults (archive_disk_of archive.old) ≤ D.says.faults (archive_disk_of archive.new) }
     ensures only { IfOk result (λ answered. answered.lost ≡ false →
         D.says.faults (archive_disk_of archive.new) ≡ D.says.faults (archive_disk_of archive.old)) }
-    ensures no_memory { OnErr result (D.says.faults (archive_disk_of archive.new) ≡ D.says.faults (archive_disk_of archive.old)) }
+    ensures no_memory { OnErr result
+        (D.says.faults (archive_disk_of archive.new) ≡ D.says.faults (archive_disk_of archive.old)) }
     ensures cause { IfOk result (λ answered. answered.lost ≡ true →
         HasRisen (D.says.faults (archive_disk_of archive.old)) (D.says.faults (archive_disk_of archive.new))) }
 {
@@ -131,7 +132,8 @@ pub(crate) fn answer_request<D: Disk>(
     ensures only { IfOk result (λ answered. answered.lost ≡ false → HaveStood D.says depot.old depot.new) }
     ensures no_memory { OnErr result (HaveStood D.says depot.old depot.new) }
     ensures cause { IfOk result (λ answered. answered.lost ≡ true →
-        HasRisen (D.says.faults (disk_of depot.old.journal)) (D.says.faults (disk_of depot.new.journal)) ⊎ HasRisen (D.says.faults (archive_disk_of depot.old.archive)) (D.says.faults (archive_disk_of depot.new.archive))) }
+        HasRisen (D.says.faults (disk_of depot.old.journal)) (D.says.faults (disk_of depot.new.journal)) ⊎
+        HasRisen (D.says.faults (archive_disk_of depot.old.archive)) (D.says.faults (archive_disk_of depot.new.archive))) }
 {
     if is_print(request) {
         reply_print(alloc, replica, &mut depot.archive, request)

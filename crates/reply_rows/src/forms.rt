@@ -91,7 +91,8 @@ fn push_field(
     name: &[u8],
     lines: &[Text],
 ) -> Result<(), AllocError>
-    ensures { OnOk result (fields.new ≡ fields.old ++ shown_field shape (record { name = name.now; lines = lines.now })) }
+    ensures { OnOk result (fields.new ≡ fields.old ++
+        shown_field shape (record { name = name.now; lines = lines.now })) }
 {
     push_as(alloc, fields, shape.kind(name), name, lines)
 }

@@ -56,7 +56,8 @@ pub fn rows_in<'a>(
     tables: &'a Tables,
     range: &'a KeyRange,
 ) -> Result<RangeWalk<'a>, AllocError>
-    ensures { IfOk result (λ walk. walk ≡ filter (has_row range.now) (version_of tables.now (range_table range.now)).rows) }
+    ensures { IfOk result (λ walk. walk ≡
+        filter (has_row range.now) (version_of tables.now (range_table range.now)).rows) }
 {
     let version = tables.version(range.table());
     // the rows of a version are of its table, their keys rising

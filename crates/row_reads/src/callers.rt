@@ -59,7 +59,8 @@ fn rows_list_groups(tables: &Tables)
 /// The caller with the groups that list the user (Command-Line Reference, "p4 group"), from the rows of this user in
 /// the table of groups alone.
 pub fn who_of(alloc: Global, tables: &Tables, caller: &Caller) -> Result<Who, AllocError>
-    ensures rows { IfOk result (λ who. who ≡ record { user = caller.now.user; groups = groups_in caller.now.user (rows_of tables.now table_ids.Group); host = caller.now.host }) }
+    ensures rows { IfOk result (λ who. who ≡
+        record { user = caller.now.user; groups = groups_in caller.now.user (rows_of tables.now table_ids.Group); host = caller.now.host }) }
     ensures depot { IfOk result (λ who. (d : List Deed) → IsSound d → HasRows (rows_of tables.now) d table_ids.Group →
         who ≡ who_in d caller.now) }
 {

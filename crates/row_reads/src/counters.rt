@@ -34,7 +34,8 @@ fn push_counter(
 
 /// The counters in the rows of the table.
 fn counters_of_rows(alloc: Global, tables: &Tables) -> Result<Sequence<CounterRecord>, AllocError>
-    ensures { IfOk result (λ counters. counters ≡ counters_in (filter (has_row ranges.Counters) (rows_of tables.now table_ids.Counter))) }
+    ensures { IfOk result (λ counters. counters ≡
+        counters_in (filter (has_row ranges.Counters) (rows_of tables.now table_ids.Counter))) }
 {
     let mut counters = Sequence::new(alloc);
     for row in rows_in(alloc, tables, &KeyRange::Counters)? {

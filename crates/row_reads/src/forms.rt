@@ -116,7 +116,8 @@ fn names_of_rows(
     tables: &Tables,
     range: &KeyRange,
 ) -> Result<Sequence<Text>, AllocError>
-    ensures { IfOk result (λ names. names ≡ names_in (filter (has_row range.now) (rows_of tables.now (range_table range.now)))) }
+    ensures { IfOk result (λ names. names ≡
+        names_in (filter (has_row range.now) (rows_of tables.now (range_table range.now)))) }
 {
     let mut names = Sequence::new(alloc);
     for row in rows_in(alloc, tables, range)? {
@@ -128,7 +129,8 @@ fn names_of_rows(
 /// The rows of a depot have the names of its forms.
 fn rows_name_forms(tables: &Tables, kind: SpecKind)
     ensures { (d : List Deed) → HasRows (rows_of tables.now) d table_ids.Domain →
-        names_in (filter (has_row (ranges.Forms (word_of_kind (kind_of kind)))) (rows_of tables.now table_ids.Domain)) ≡ keys_of (spec_name (kind_of kind)) d }
+        names_in (filter (has_row (ranges.Forms (word_of_kind (kind_of kind)))) (rows_of tables.now table_ids.Domain)) ≡
+        keys_of (spec_name (kind_of kind)) d }
 {
     // the word of a kind is the model's
     let _kind = kind_word(kind);

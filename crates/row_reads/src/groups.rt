@@ -33,7 +33,8 @@ fn users_of_rows(
     tables: &Tables,
     range: &KeyRange,
 ) -> Result<Sequence<Text>, AllocError>
-    ensures { IfOk result (λ users. users ≡ users_in (filter (has_row range.now) (rows_of tables.now (range_table range.now)))) }
+    ensures { IfOk result (λ users. users ≡
+        users_in (filter (has_row range.now) (rows_of tables.now (range_table range.now)))) }
 {
     let mut users = Sequence::new(alloc);
     for row in rows_in(alloc, tables, range)? {
@@ -45,7 +46,8 @@ fn users_of_rows(
 /// The rows of a depot list the users of a group.
 fn rows_list_users(tables: &Tables)
     ensures { (d : List Deed) (group : List ℕ) → HasRows (rows_of tables.now) d table_ids.Group →
-        users_in (filter (has_row (ranges.GroupUsers group)) (rows_of tables.now table_ids.Group)) ≡ by_name (users d group) }
+        users_in (filter (has_row (ranges.GroupUsers group)) (rows_of tables.now table_ids.Group)) ≡
+        by_name (users d group) }
 {
     let version = tables.version(TableId::Group);
     // the rows of a version are of its table, their keys rising

@@ -70,7 +70,8 @@ pub(crate) fn all_keep(
 ) -> Result<bool, AllocError>
     requires small { top ≤ 2147483647 }
     requires top { top ≡ top_in (stored tables.now) }
-    ensures { IfOk result (λ keep. keep ≡ list_all (keeps_test (stored tables.now)) (version_of tables.now table).rows) }
+    ensures { IfOk result (λ keep. keep ≡
+        list_all (keeps_test (stored tables.now)) (version_of tables.now table).rows) }
 {
     for row in tables.version(table).rows() {
         if !keeps(alloc, tables, top, row)? {

@@ -55,7 +55,8 @@ pub(crate) fn keeps_revision(
     tables: &Tables,
     row: &RevRecord,
 ) -> Result<bool, AllocError>
-    ensures { IfOk result (λ keep. keep ≡ (revision_test (stored tables.now) row.now && follows_test (stored tables.now) row.now)) }
+    ensures { IfOk result (λ keep. keep ≡
+        (revision_test (stored tables.now) row.now && follows_test (stored tables.now) row.now)) }
 {
     let is = is_revision(alloc, tables, row)?;
     let follows = follows_revision(tables, row)?;

@@ -58,7 +58,8 @@ fn keep_too(
 ) -> Result<bool, AllocError>
     requires small { top ≤ 2147483647 }
     requires top { top ≡ top_in (stored tables.now) }
-    ensures { IfOk result (λ keep. keep ≡ (list_all (keeps_test (stored tables.now)) (version_of tables.now table).rows && others)) }
+    ensures { IfOk result (λ keep. keep ≡
+        (list_all (keeps_test (stored tables.now)) (version_of tables.now table).rows && others)) }
 {
     let keep = all_keep(alloc, tables, top, table)?;
     Ok(keep && others)
@@ -68,7 +69,8 @@ fn keep_too(
 fn tables_keep(alloc: Global, tables: &Tables, top: u32) -> Result<bool, AllocError>
     requires small { top ≤ 2147483647 }
     requires top { top ≡ top_in (stored tables.now) }
-    ensures { IfOk result (λ keep. keep ≡ list_all (λ table. list_all (keeps_test (stored tables.now)) (version_of tables.now table).rows) all_tables) }
+    ensures { IfOk result (λ keep. keep ≡
+        list_all (λ table. list_all (keeps_test (stored tables.now)) (version_of tables.now table).rows) all_tables) }
 {
     let rev = keep_too(alloc, tables, top, TableId::Rev, true)?;
     let change = keep_too(alloc, tables, top, TableId::Change, rev)?;

@@ -127,7 +127,8 @@ fn row_in_field<'a>(
 
 /// Whether a path has the revision that the base gives, or the base gives 0.
 fn has_its_base(alloc: Global, tables: &Tables, form: &Form) -> Result<bool, AllocError>
-    ensures { IfOk result (λ has. has ≡ ((field_number form.now (codes "Base") == 0) || small_rev_test (stored tables.now) (value_in form.now (codes "Path")) (field_number form.now (codes "Base")))) }
+    ensures { IfOk result (λ has. has ≡
+        ((field_number form.now (codes "Base") == 0) || small_rev_test (stored tables.now) (value_in form.now (codes "Path")) (field_number form.now (codes "Base")))) }
 {
     let path = Text::from_bytes(alloc, value(form, "Path"))?;
     let row = row_in_field(tables, &path, form, "Base")?;

@@ -47,7 +47,8 @@ pub(crate) fn answer_party<K: Sink>(
     requires run { at < length runs.old.items }
     requires sink { at < length sinks.old.items }
     requires few { (run : AnyRun) → slice_get runs.old.items at ≡ Some run → run.commands < 4294967295 }
-    ensures { IsAnsweredAt K.says at (text_of reply) runs.old.items runs.new.items sinks.old.items sinks.new.items result }
+    ensures { IsAnsweredAt K.says at
+        (text_of reply) runs.old.items runs.new.items sinks.old.items sinks.new.items result }
 {
     let number = runs[at].commands + 1;
     let failed = give(&mut sinks[at], reply, number);

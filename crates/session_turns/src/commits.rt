@@ -61,8 +61,12 @@ pub(crate) fn place_commit<D: Disk, G: Gate>(
     ensures unplaced { OnErr result (IsUnplaced D.says depot.old depot.new) }
     ensures order { IfOk result (λ answer. order.new.items ≡ order.old.items ++ answer.place ∷ []) }
     ensures same_order { OnErr result (order.new.items ≡ order.old.items) }
-    ensures stand { StandWithoutFaults (D.says.faults (disk_of depot.old.journal)) (D.says.faults (disk_of depot.new.journal)) (D.says.faults (archive_disk_of depot.old.archive)) (D.says.faults (archive_disk_of depot.new.archive)) order.old.items order.new.items }
-    ensures faults { AreCaused (D.says.faults (disk_of depot.old.journal)) (D.says.faults (disk_of depot.new.journal)) (D.says.faults (archive_disk_of depot.old.archive)) (D.says.faults (archive_disk_of depot.new.archive)) order.old.items order.new.items }
+    ensures stand { StandWithoutFaults (D.says.faults (disk_of depot.old.journal))
+        (D.says.faults (disk_of depot.new.journal)) (D.says.faults (archive_disk_of depot.old.archive))
+        (D.says.faults (archive_disk_of depot.new.archive)) order.old.items order.new.items }
+    ensures faults { AreCaused (D.says.faults (disk_of depot.old.journal)) (D.says.faults (disk_of depot.new.journal))
+        (D.says.faults (archive_disk_of depot.old.archive))
+        (D.says.faults (archive_disk_of depot.new.archive)) order.old.items order.new.items }
 {
     let outcome = match outcome {
         Ok(outcome) => outcome,

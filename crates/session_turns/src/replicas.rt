@@ -109,9 +109,12 @@ impl Replicas {
         ensures stepped { (p : AnyParty) → slice_get self.old.parties.items at ≡ Some (Some p) →
             0 < length p.left.items → IsStepped D.says depot.old depot.new at p self.old self.new (text_of result) }
         ensures never_falls { D.says.faults (disk_of depot.old.journal) ≤ D.says.faults (disk_of depot.new.journal) }
-        ensures never_falls_contents { D.says.faults (archive_disk_of depot.old.archive) ≤ D.says.faults (archive_disk_of depot.new.archive) }
+        ensures never_falls_contents { D.says.faults (archive_disk_of depot.old.archive) ≤
+            D.says.faults (archive_disk_of depot.new.archive) }
         ensures told { self.new.lost ≡ false → (self.old.lost ≡ false) × HaveStood D.says depot.old depot.new }
-        ensures lost { HasLost self.old.lost self.new.lost (D.says.faults (disk_of depot.old.journal)) (D.says.faults (disk_of depot.new.journal)) (D.says.faults (archive_disk_of depot.old.archive)) (D.says.faults (archive_disk_of depot.new.archive)) }
+        ensures lost { HasLost self.old.lost self.new.lost (D.says.faults (disk_of depot.old.journal))
+            (D.says.faults (disk_of depot.new.journal)) (D.says.faults (archive_disk_of depot.old.archive))
+            (D.says.faults (archive_disk_of depot.new.archive)) }
     {
         if at >= self.parties.len() {
             return Err(AllocError);
@@ -132,7 +135,8 @@ impl Replicas {
     pub(crate) fn count_turn(&mut self, at: usize, failed: bool)
         ensures parties { self.new.parties ≡ self.old.parties }
         ensures lost { self.new.lost ≡ self.old.lost }
-        ensures others { self.new.others.items ≡ slice_set self.old.others.items at (left_after_turn (get_or self.old.others.items at 0) failed) }
+        ensures others { self.new.others.items ≡
+            slice_set self.old.others.items at (left_after_turn (get_or self.old.others.items at 0) failed) }
     {
         if at >= self.others.len() {
             return;

@@ -47,7 +47,8 @@ impl<D: Disk, N: Serving> CommonDepot<D, N> {
     /// answered over the depot in files as it is then.
     pub(crate) fn tell_alone(&mut self, words: &OrderWords<N>, pass: &mut PartyPass<N>)
         ensures same { self.new ≡ self.old }
-        ensures told { (request : AnyRequest) (replica : AnyParty) (answer : Result AnyAnswered AnyError) (marks : PassKnown) →
+        ensures told { (request : AnyRequest) (replica : AnyParty) (answer : Result AnyAnswered AnyError)
+            (marks : PassKnown) →
             IsAnsweredAlone D.says request replica answer →
             IsReplicaAnswer D.says N.end N.images N.begins N.masters pass.old pass.new marks marks request replica replica answer }
     {

@@ -144,12 +144,16 @@ impl<D: Disk, N: Serving> OpenedDepot<D, N> {
         ensures followed { IsFollowed D.says N.begins N.masters self.order result.depot }
         ensures stored { HasAllStored D.says N.end N.images N.begins self.order result.depot.archive }
         // Each mark is of a party that may mark.
-        ensures mark_parties { AllByRecursion (λ mark. MayMark N.marks mark.party ⊎ MayMark N.content_marks mark.party) self.marks }
+        ensures mark_parties { AllByRecursion
+            (λ mark. MayMark N.marks mark.party ⊎ MayMark N.content_marks mark.party) self.marks }
         // The fault places and the marks together are at most as many as the counts of the two disks rose. Where there
         // is neither, the counts stand.
-        ensures failures { HaveRisenBy (fault_count result.order.items + length self.marks) N.faults (D.says.faults (disk_of result.depot.journal)) N.content_faults (D.says.faults (archive_disk_of result.depot.archive)) }
+        ensures failures { HaveRisenBy (fault_count result.order.items + length self.marks) N.faults
+            (D.says.faults (disk_of result.depot.journal)) N.content_faults
+            (D.says.faults (archive_disk_of result.depot.archive)) }
         ensures stand { length self.marks ≡ 0 →
-            StandWithoutFaults N.faults (D.says.faults (disk_of result.depot.journal)) N.content_faults (D.says.faults (archive_disk_of result.depot.archive)) [] result.order.items }
+            StandWithoutFaults N.faults (D.says.faults (disk_of result.depot.journal)) N.content_faults
+            (D.says.faults (archive_disk_of result.depot.archive)) [] result.order.items }
         ensures never_falls { N.faults ≤ D.says.faults (disk_of result.depot.journal) }
         ensures never_falls_contents { N.content_faults ≤ D.says.faults (archive_disk_of result.depot.archive) }
     {

@@ -23,7 +23,8 @@ pub fn depots_are_followed<D: Disk, N: Serving>()
     // Its rows stand for the depot after so many changes as it has taken, cut to its filter, beside each archive in
     // which the contents of the places were stored that the link's party knew, as they are in the depot's once all
     // threads have ended.
-    ensures stands { (order : List AnyTaken) (texts : List (List ℕ)) (archive : AnyArchive D) (rules : List FilterRule) (moments : List Moment) (r : AnyReplica) →
+    ensures stands { (order : List AnyTaken) (texts : List (List ℕ)) (archive : AnyArchive D) (rules : List FilterRule)
+        (moments : List Moment) (r : AnyReplica) →
         (told : TellsJournal D.says N.end N.images N.begins N.masters order texts) →
         HasAllStored D.says N.end N.images N.begins order archive → HasFollowed rules texts r moments →
         (d : List Deed) × IsNth told.past told.start (map placed_of order) r.changes d ×

@@ -51,7 +51,8 @@ fn push_file(
     change: u32,
     path: &DepotPath,
 ) -> Result<(), AllocError>
-    ensures { OnOk result (text.new ≡ text.old ++ fields_text (valued (codes "Path") (printed path.now) ∷ valued (codes "Change") (decimal change) ∷ [])) }
+    ensures { OnOk result (text.new ≡ text.old ++
+        fields_text (valued (codes "Path") (printed path.now) ∷ valued (codes "Change") (decimal change) ∷ [])) }
 {
     let file = path.print(alloc)?;
     push_field(text, b"Path", file.as_bytes())?;
@@ -152,7 +153,8 @@ fn kept_text(
     opening: &Opening,
     block: Option<&Text>,
 ) -> Result<Text, AllocError>
-    ensures { IfOk result (λ text. text ≡ fields_text (model.kept_form caller.now (opening_of opening.now) (option_copied block.entry)).fields) }
+    ensures { IfOk result (λ text. text ≡
+        fields_text (model.kept_form caller.now (opening_of opening.now) (option_copied block.entry)).fields) }
 {
     let mut text = Text::new(alloc);
     push_file(&mut text, alloc, opening.change, &opening.path)?;

@@ -173,7 +173,8 @@ fn kept_among(
 /// Of the files of the rows of a change those that are kept are those that the depot keeps.
 fn rows_tell_kept(tables: &Tables)
     ensures { (d : List Deed) (n : ℕ) → IsSound d → HasRows (rows_of tables.now) d table_ids.Domain →
-        filter (λ path. is_some (model.kept d n path)) (files_in_rows (beginning n) (rows_of tables.now table_ids.Domain)) ≡ model.kept_paths d n }
+        filter (λ path. is_some (model.kept d n path))
+        (files_in_rows (beginning n) (rows_of tables.now table_ids.Domain)) ≡ model.kept_paths d n }
 {
     let version = tables.version(TableId::Domain);
     // the rows of a version are of its table, their keys rising

@@ -78,7 +78,8 @@ fn unshelved_row(
     place: Option<&ClientPath>,
     block: &Option<Text>,
 ) -> Result<Row, AllocError>
-    ensures { IfOk result (λ row. row ≡ waiting (unshelved_at (opening_of_deed opening.now) (option_copied place.entry) block.now)) }
+    ensures { IfOk result (λ row. row ≡
+        waiting (unshelved_at (opening_of_deed opening.now) (option_copied place.entry) block.now)) }
 {
     let mut row = opening_row(alloc, opening, place)?;
     push_source(alloc, &mut row.fields, &opening.source)?;

@@ -30,24 +30,28 @@ pub fn steps_on_files_keep_depots_sound()
         IsSound (after d (unlock d caller change files).deeds) }
     ensures revert { (d : List Deed) (caller : Caller) (change : Option ℕ) (files : List FileArgument) → IsSound d →
         IsSound (after d (revert d caller change files).deeds) }
-    ensures reopen { (d : List Deed) (caller : Caller) (change : Option ℕ) (type : Option (List ℕ)) (files : List FileArgument) →
+    ensures reopen { (d : List Deed) (caller : Caller) (change : Option ℕ) (type : Option (List ℕ))
+        (files : List FileArgument) →
         IsSound d →
         IsTrue (is_type_or_none type) → IsSound (after d (reopen d caller change type files).deeds) }
     ensures tag { (d : List Deed) (caller : Caller) (label : List ℕ) (removes : Bool) (files : List FileArgument) →
         IsSound d →
         IsTrue (is_name label) → IsSound (after d (tag d caller label removes files).deeds) }
-    ensures labelsync { (d : List Deed) (caller : Caller) (label : List ℕ) (labelling : Labelling) (files : List FileArgument) →
+    ensures labelsync { (d : List Deed) (caller : Caller) (label : List ℕ) (labelling : Labelling)
+        (files : List FileArgument) →
         IsSound d →
         IsSound (after d (labelsync d caller label labelling files).deeds) }
 {}
 
 /// Steps that open files, and a sync, leave a sound depot sound where the caller's client is saved.
 pub fn steps_that_open_files_keep_depots_sound()
-    ensures add { (d : List Deed) (caller : Caller) (change : Option ℕ) (type : Option (List ℕ)) (paths : List FileArgument) →
+    ensures add { (d : List Deed) (caller : Caller) (change : Option ℕ) (type : Option (List ℕ))
+        (paths : List FileArgument) →
         IsSound d →
         IsTrue (is_client d caller.client) → IsTrue (is_type_or_none type) → IsTrue (list_all spells_path paths) →
         IsSound (after d (add d caller change type paths).deeds) }
-    ensures edit { (d : List Deed) (caller : Caller) (change : Option ℕ) (type : Option (List ℕ)) (files : List FileArgument) →
+    ensures edit { (d : List Deed) (caller : Caller) (change : Option ℕ) (type : Option (List ℕ))
+        (files : List FileArgument) →
         IsSound d →
         IsTrue (is_client d caller.client) → IsTrue (is_type_or_none type) →
         IsSound (after d (edit d caller change type files).deeds) }
@@ -62,7 +66,8 @@ pub fn steps_between_files_keep_depots_sound()
     ensures moved { (d : List Deed) (caller : Caller) (change : Option ℕ) (from : FileArgument) (to : PatternArgument) →
         IsSound d →
         IsSound (after d (move_step d caller change from to).deeds) }
-    ensures integrate { (d : List Deed) (caller : Caller) (change : Option ℕ) (from : FileArgument) (to : PatternArgument) →
+    ensures integrate { (d : List Deed) (caller : Caller) (change : Option ℕ) (from : FileArgument)
+        (to : PatternArgument) →
         IsSound d →
         IsTrue (is_client d caller.client) → IsSound (after d (integrate d caller change from to).deeds) }
     ensures resolve { (d : List Deed) (caller : Caller) (taking : Taking) (files : List FileArgument) → IsSound d →

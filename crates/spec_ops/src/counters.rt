@@ -31,7 +31,8 @@ fn counter_row(alloc: Global, name: &[u8], value: u64) -> Result<Row, AllocError
 
 /// The value of a counter, 0 where it has none.
 pub(crate) fn counter_value(alloc: Global, tables: &Tables, name: &Name) -> Result<u64, AllocError>
-    ensures { IfOk result (λ value. value ≡ value_in (row_at (keys.Counter name.now) (rows_of tables.now table_ids.Counter))) }
+    ensures { IfOk result (λ value. value ≡
+        value_in (row_at (keys.Counter name.now) (rows_of tables.now table_ids.Counter))) }
 {
     let key = Key::Counter {
         name: Text::from_bytes(alloc, name.as_bytes())?,

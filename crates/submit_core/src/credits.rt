@@ -86,7 +86,8 @@ fn credits_in(
     range: &KeyRange,
     path: &[u8],
 ) -> Result<Sequence<Credit>, AllocError>
-    ensures { IfOk result (λ credits. credits ≡ filter_map (credit_of_row path.now) (filter (has_row range.now) (rows_of tables.now (range_table range.now)))) }
+    ensures { IfOk result (λ credits. credits ≡
+        filter_map (credit_of_row path.now) (filter (has_row range.now) (rows_of tables.now (range_table range.now)))) }
 {
     let mut credits = Sequence::new(alloc);
     for row in rows_in(alloc, tables, range)? {

@@ -100,7 +100,8 @@ fn place(
 
 /// The credit of a file from the revision that it was moved from.
 fn credit_from(source: &Source) -> Result<Credit, AllocError>
-    ensures { IfOk result (λ credit. credit ≡ record { from = source.now.path; first = source.now.rev; last = source.now.rev; how = How.MovedFrom }) }
+    ensures { IfOk result (λ credit. credit ≡
+        record { from = source.now.path; first = source.now.rev; last = source.now.rev; how = How.MovedFrom }) }
 {
     let from = source.path.clone()?;
     Ok(Credit {
@@ -113,7 +114,8 @@ fn credit_from(source: &Source) -> Result<Credit, AllocError>
 
 /// Adds the credit of a file from the revision that it was moved from.
 fn add_move_credit(credits: &mut Sequence<Credit>, opening: &Opening) -> Result<(), AllocError>
-    ensures { OnOk result (map credit_said credits.new ≡ map credit_said credits.old ++ model.move_credits (opening_said opening.now)) }
+    ensures { OnOk result (map credit_said credits.new ≡ map credit_said credits.old ++
+        model.move_credits (opening_said opening.now)) }
 {
     let Action::MoveAdd = opening.action else {
         return Ok(());
@@ -136,7 +138,8 @@ fn all_credits(
 ) -> Result<Sequence<Credit>, AllocError>
     ensures { IfOk result (λ credits. (d : List Deed) → IsSound d → HasRows (rows_of tables.now) d table_ids.Resolve →
         IsOpened d opening.now.client opening.now →
-        map credit_said credits ≡ model.credits_of d (opening_said opening.now) ++ model.move_credits (opening_said opening.now)) }
+        map credit_said credits ≡ model.credits_of d (opening_said opening.now) ++
+        model.move_credits (opening_said opening.now)) }
 {
     let mut credits = credits_of(alloc, tables, &opening.client, &opening.path)?;
     add_move_credit(&mut credits, opening)?;

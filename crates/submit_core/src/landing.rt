@@ -76,7 +76,8 @@ pub(crate) fn landed_rows(
     entries: &[Entry],
     number: u32,
 ) -> Result<Sequence<Row>, AllocError>
-    ensures { IfOk result (λ rows. rows ≡ map row_of_entry entries.now ++ row_with (field_of_number (codes "submittedChange") number ∷ []) ∷ []) }
+    ensures { IfOk result (λ rows. rows ≡ map row_of_entry entries.now ++
+        row_with (field_of_number (codes "submittedChange") number ∷ []) ∷ []) }
 {
     let mut rows = file_rows(alloc, entries)?;
     let row = number_row(alloc, number)?;
@@ -162,7 +163,8 @@ pub(crate) fn landing_of(
     text: &Text,
     entries: Sequence<Entry>,
 ) -> Result<Landing, AllocError>
-    ensures { IfOk result (λ landing. landing ≡ record { change = number; user = request.now.caller.user; client = request.now.caller.client; moment = request.now.moment; text = text.now; entries = entries }) }
+    ensures { IfOk result (λ landing. landing ≡
+        record { change = number; user = request.now.caller.user; client = request.now.caller.client; moment = request.now.moment; text = text.now; entries = entries }) }
 {
     let user = own_name(&request.caller.user)?;
     let client = own_name(&request.caller.client)?;

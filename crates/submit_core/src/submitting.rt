@@ -50,7 +50,8 @@ fn front_refusal(
     text: &Text,
     openings: &[Opening],
 ) -> Result<Option<Row>, AllocError>
-    ensures { IfOk result (λ row. row ≡ option_map refusal_row (first_of (front_refusals change text.now (length openings.now)))) }
+    ensures { IfOk result (λ row. row ≡
+        option_map refusal_row (first_of (front_refusals change text.now (length openings.now)))) }
 {
     if openings.len() == 0 {
         let row = empty_change_row(alloc, change)?;
@@ -65,7 +66,8 @@ fn front_refusal(
 
 /// The row where the number is too great, or else there are too many files.
 fn last_refusal(alloc: Global, number: u64, openings: &[Opening]) -> Result<Option<Row>, AllocError>
-    ensures { IfOk result (λ row. row ≡ option_map refusal_row (first_of (last_refusals number (length openings.now)))) }
+    ensures { IfOk result (λ row. row ≡
+        option_map refusal_row (first_of (last_refusals number (length openings.now)))) }
 {
     if number > LAST_CHANGE {
         let row = limit_row(alloc, Limit::Change)?;
