@@ -1,16 +1,18 @@
 -- Seats of lanes that announce a place, and the tables that it changes.
-use Rattle.std.proofs.Common.{◌≡◌, ◌≤◌, ℕ, ◌+◌, true, List, [], ◌∷◌, ◌++◌, length, sym, ap, ◌∙◌, subst, arith}
+use Rattle.std.proofs.Common.{◌≡◌, ◌≤◌, ℕ, ◌+◌, true, List, [], ◌∷◌, ◌++◌, length, Option, Some, IfSome, sym, ap, ◌∙◌, subst, arith}
 use Rattle.depot_model.specs.db_records.Table.{table_number}
+use Rattle.depot_model.specs.db_records.declared.change.Change.{Change}
 use Rattle.depot_model.specs.db_records.declared.table.TableId.{TableId}
 use Rattle.order_words.specs.Lanes.{has_lane, is_among, last_touch}
 use Rattle.order_words.specs.Seats.{Run, LaneState, OrderState}
 use Rattle.order_words.proofs.Touches.{last_touch_touched}
 use Rattle.table_changes.specs.Changed.{AllRows, changed_by}
 use Rattle.table_changes.specs.table_store.Rows.{TableRows}
-use Rattle.locked_tables.specs.Known.{KnowsLane, LearnsPlace, at_rest}
+use Rattle.locked_tables.specs.Known.{KnowsLane, LearnsPlace, TableKnown, at_rest}
 use Rattle.locked_tables.specs.Placing.{AddsLanes, IsAnnounced}
 use Rattle.locked_tables.specs.Taken.{TouchesItsTables, lanes_of, rows_after}
-use Rattle.locked_tables.specs.Held.{OnlyChange}
+use Rattle.locked_tables.specs.Held.{IsNext, OnlyChange, known_of}
+use Rattle.locked_tables.specs.declared.held_table.HeldTable.{HeldTable}
 use Rattle.locked_tables.specs.declared.taken.Taken.{Taken}
 use Rattle.locked_tables.proofs.Archive.{goes_on}
 use Rattle.locked_tables.proofs.Lanes.{adds_both, has_this, not_last}
@@ -37,7 +39,7 @@ module _ {run : Run} {lane lanes more : ℕ} {before announced : OrderState Take
       pub placed_behind : after ≡ record before { list = before.list ++ record taken { lanes = all } ∷ []; checked = [] }
       placed_behind = placed ∙ ap (λ (o : OrderState Taken). record o { list = o.list ++ record taken { lanes = all } ∷ []; checked = [] }) announces.order
 
-      last : after.list ≡ before.list ++ record taken { lanes = all } ∷ []
+      pub last : after.list ≡ before.list ++ record taken { lanes = all } ∷ []
       last = ap (λ (o : OrderState Taken). o.list) placed_behind
 
       pub is_placed : ready.word ≤ last_touch lanes_of ready.lane after.list
@@ -56,8 +58,8 @@ module _ {run : Run} {lane lanes more : ℕ} {before announced : OrderState Take
             listed run lane after.list settled (settled_at_rest run lane after.list ready settled run_is lane_is settled_is word)
 
         -- it has learnt of the place
-        pub learns : LearnsPlace lane before.list after.list seat.list settled.list
-        learns = record { behind = goes_on lane seat.list before.list knows; learnt = ap (λ (s : LaneState Taken). s.list) settled_is }
+        pub learns : {final : OrderState Taken} → final ≡ after → LearnsPlace lane before.list final.list seat.list settled.list
+        learns {final} final_is = record { behind = goes_on lane seat.list before.list knows; learnt = ap (λ (s : LaneState Taken). s.list) settled_is ∙ ap (λ (o : OrderState Taken). o.list) (sym final_is) }
 
         -- a version that is the next of a table is the table after the places that it knows
         pub table_settled : (rows : AllRows) (table : TableId) (version : TableRows) → lane ≡ table_number table → last_touch lanes_of ready.lane after.list ≡ ready.word
@@ -76,3 +78,10 @@ module _ {run : Run} {lane lanes more : ℕ} {before announced : OrderState Take
 -- an entry touches its tables where those of its last lanes are all that it changes
 pub touches_its : (entry : Taken) (front lanes : List ℕ) → ((i : ℕ) → has_lane entry.lanes i ≡ is_among i (front ++ lanes)) → OnlyChange entry.changes lanes → TouchesItsTables entry
 touches_its entry front lanes are only = λ table none. only table (not_last (table_number table) front lanes (sym (are (table_number table)) ∙ none))
+
+-- the version that is to follow a held table is the table after the changes
+pub follows : {N : Type 0} (rows : AllRows) (changes : List Change) (held : HeldTable N) {version : TableRows} {known : TableKnown} → held.next ≡ Some version → known_of held ≡ known → IsNext rows changes held
+    → version ≡ record { table = known.table; rows = changed_by (rows_after rows known.list) changes known.table }
+follows rows changes held {version} {known} next is follow =
+    let Follows : Option TableRows → TableKnown → Type 0 = λ n k. IfSome n (λ v. v ≡ record { table = k.table; rows = changed_by (rows_after rows k.list) changes k.table }) in
+    subst (Follows (Some version)) is (subst (λ (n : Option TableRows). Follows n (known_of held)) next follow)

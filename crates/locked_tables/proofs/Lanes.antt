@@ -10,7 +10,8 @@ use Rattle.depot_model.specs.db_records.declared.table.TableId.{TableId}
 use Rattle.depot_model.specs.db_records.declared.table.TableId.TheVariants.{Counter, Group, Protect, Domain, Have, Label, Integed, Resolve, Working, Change, Rev}
 use Rattle.order_words.specs.Lanes.{has_lane, is_among}
 use Rattle.table_changes.specs.table_store.Rows.{TableRows}
-use Rattle.locked_tables.specs.Held.{AreAmong, lane_next, lanes_next, table_held}
+use Rattle.locked_tables.specs.Held.{AreAmong, known_of, lane_next, lanes_next, table_held}
+use Rattle.locked_tables.specs.Known.{TableKnown}
 use Rattle.locked_tables.specs.Placing.{AddsLanes, AreOfTables, lanes_held}
 use Rattle.locked_tables.specs.Taken.{archive_lane, journal_lane, party_lane}
 use Rattle.locked_tables.specs.declared.held_table.HeldTable.{HeldTable}
@@ -103,6 +104,20 @@ module _ {N : Type 0} where
   -- the lanes of held tables that are changed are such
   pub next_of_tables : (held : List (HeldTable N)) → AreOfTables (lanes_next held)
   next_of_tables held = λ lane past. not_next lane held past
+
+-- ---- held tables, of which the first is changed or isn't
+
+module _ {N : Type 0} {first : HeldTable N} {rest held : List (HeldTable N)} (is : held ≡ first ∷ rest) where
+  lanes_by : {next : Option TableRows} → first.next ≡ next → lane_next next (table_held first) (lanes_next rest) ≡ lanes_next held
+  lanes_by next = sym (ap lanes_next is ∙ ap (λ (n : Option TableRows). lane_next n (table_held first) (lanes_next rest)) next)
+
+  pub lanes_kept : first.next ≡ None → lanes_next rest ≡ lanes_next held
+  lanes_kept none = lanes_by none
+
+  pub lanes_more : {version : TableRows} {known : TableKnown} → first.next ≡ Some version → known ≡ known_of first → table_number known.table ∷ lanes_next rest ≡ lanes_next held
+  lanes_more next known = ap (λ (k : TableKnown). table_number k.table ∷ lanes_next rest) known ∙ lanes_by next
+
+-- ---- lanes of parties
 
 -- the lane of a party is that of another just where they are one
 same_lane : (party other : ℕ) → (party_lane party == party_lane other) ≡ (other == party)

@@ -8,7 +8,7 @@ use Rattle.order_words.specs.Seats.{LaneState, OrderState, Run}
 use Rattle.table_changes.specs.Changed.{AllRows, changed_by}
 use Rattle.locked_tables.specs.Held.{OnlyChange}
 use Rattle.locked_tables.specs.Known.{HasPlaceLeft, PartyKnown}
-use Rattle.locked_tables.specs.Placing.{IsAnnounced, IsPlaced, TouchesLanes, lanes_held}
+use Rattle.locked_tables.specs.Placing.{IsAnnounced, IsPlaced, TakesPlace, TouchesLanes, lanes_held}
 use Rattle.locked_tables.specs.Taken.{IsOwn, TouchesItsParty, TouchesItsTables, archive_lane, journal_lane, party_lane, rows_after}
 use Rattle.locked_tables.specs.declared.taken.Taken.{Taken}
 use Rattle.locked_tables.proofs.Announced.{touches_its}
@@ -58,3 +58,7 @@ pub placed_around : {run : Run} {lanes more : ℕ} {before announced after settl
 placed_around {run} {lanes} {more} {before} {announced} {after} {settled} {seat} {ready} {old} {new} {entry} announces placed settled_is =
     let here : IsPlaced run (record before { checked = seat.lane ∷ before.checked }) after old new entry = subst (λ (o : OrderState Taken). IsPlaced run o after old new entry) announces.order placed in
     subst (λ (o : OrderState Taken). IsPlaced run before o old new entry) (sym settled_is) (record { order = here.order; pass = here.pass; own = here.own; party = here.party })
+
+-- what it says of the list of the order alone
+pub takes_place : {run : Run} {before after : OrderState Taken} {old new : PartyKnown} {entry : Taken} → IsPlaced run before after old new entry → TakesPlace before.list after.list old new entry
+takes_place placed = record { last = ap (λ (o : OrderState Taken). o.list) placed.order; pass = placed.pass; own = placed.own }

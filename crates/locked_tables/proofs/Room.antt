@@ -1,5 +1,5 @@
 -- How many places parties have and may have, and that there is room for all of them.
-use Rattle.std.proofs.Common.{◌≡◌, ◌≢◌, ◌≤◌, ◌<◌, ◌==◌, ◌+◌, ◌++◌, ℕ, zero, suc, Bool, true, false, List, [], ◌∷◌, length, map, if◌then◌else◌, refl, sym, ap, ◌∙◌, subst, arith}
+use Rattle.std.proofs.Common.{◌≡◌, ◌≢◌, ◌≤◌, ◌<◌, ◌==◌, ◌+◌, ◌-◌, ◌++◌, ℕ, zero, suc, Bool, true, false, List, [], ◌∷◌, length, map, if◌then◌else◌, refl, sym, ap, ◌∙◌, subst, arith}
 use mathlib.Core.Logic.{dite}
 use native.Mathlib.Decide.{ℕ_discrete}
 use borrow.Author.Tests.{eqb-true}
@@ -78,6 +78,14 @@ module _ (places : ℕ → ℕ) (known : PartyKnown) (before after : List Taken)
   -- then it has just one more
   pub counts_own : count_of after known.party ≡ count_of known.list known.party + 1
   counts_own = let more = length-append (of_party known.party known.list) (own.taken ∷ []) in let is = ap length own.own in omega arith
+
+-- and so it may have one less
+pub left_after : (places : ℕ → ℕ) (left : ℕ) {party : ℕ} {known before after list : List Taken} → IsOwn party known before after → list ≡ after → count_of known party + left ≡ places party → count_of known party < places party
+    → count_of list party + (left - 1) ≡ places party
+left_after places left {party} {known} {before} {after} {list} own is was less =
+    let more = counts_own places (record { party = party; list = known }) before after own in
+    let now : count_of list party ≡ count_of after party = ap (λ (l : List Taken). count_of l party) is in
+    omega arith
 
 module _ (places : ℕ → ℕ) (before : List Taken) (entry : Taken) (within : (party : ℕ) → count_of before party ≤ places party) (left : count_of before entry.request.party < places entry.request.party) where
   with_one : (party : ℕ) (b : Bool) → (entry.request.party == party) ≡ b → length (of_party party before ++ (if b then entry ∷ [] else [])) ≤ places party

@@ -5,11 +5,18 @@ use mathlib.Core.List.{IsPrefix}
 use Rattle.order_words.specs.Lanes.{has_lane, is_among, last_touch}
 use Rattle.order_words.specs.Seats.{LaneState, OrderState, Run}
 use Rattle.table_changes.specs.Changed.{AllRows}
-use Rattle.locked_tables.specs.Held.{AllNext}
+use Rattle.locked_tables.specs.Held.{AllNext, AreAmong}
 use Rattle.locked_tables.specs.Known.{HasPlaceLeft, PartyKnown}
 use Rattle.locked_tables.specs.Taken.{IsOwn, IsParty, TouchesItsParty, archive_lane, journal_lane, lanes_of, party_lane}
 use Rattle.locked_tables.specs.declared.held_table.HeldTable.{HeldTable}
 use Rattle.locked_tables.specs.declared.taken.Taken.{Taken}
+
+-- The seat of the order of a run can take one more place, for which these lanes are checked, and of the parties' lanes each entry touches that of its own party alone.
+pub record IsReadyFor (run : Run) (lanes : ℕ) (order : OrderState Taken) : Type 0 where
+  pub of_run : order.run ≡ run
+  pub room : length order.list < 2 ^ 64 - 1
+  pub parties : AllByRecursion (TouchesItsParty run) order.list
+  pub checked : AreAmong lanes order.checked
 
 -- these lanes and more are all
 pub record AddsLanes (lanes : ℕ) (more : List ℕ) (all : ℕ) : Type 0 where
@@ -43,10 +50,8 @@ pub record TouchesLanes (run : Run) (entry : Taken) (archive journal : Bool) (pa
   pub are : AddsLanes 0 (lanes_held archive journal ++ party_lane party ∷ tables) entry.lanes
 
 module _ {N : Type 0} where
-  -- An entry of a party can be given the next place: the party may have one more, and each version that is to follow is its table after the changes.
-  pub record CanPlace (run : Run) (rows : AllRows) (places : ℕ → ℕ) (order : List Taken) (held : List (HeldTable N)) (pass : PartyKnown) (taken : Taken) : Type 0 where
-    pub room : length order < 2 ^ 64 - 1
-    pub parties : AllByRecursion (TouchesItsParty run) order
+  -- An entry of a party can be given a place: the party may have one more, and each version that is to follow is its table after the changes.
+  pub record CanPlace (rows : AllRows) (places : ℕ → ℕ) (held : List (HeldTable N)) (pass : PartyKnown) (taken : Taken) : Type 0 where
     pub left : HasPlaceLeft places pass
     pub asks : taken.request.party ≡ pass.party
     pub next : AllNext rows taken.changes held

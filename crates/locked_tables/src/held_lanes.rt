@@ -1,9 +1,9 @@
 //! The lanes of the archive and of the journal, for a command that holds their locks and for one that
 //! doesn't.
 ghost use Rattle.std.specs.Prelude.{◌≡◌, ◌≤◌, ◌-◌, ◌^◌, ◌++◌, ◌∷◌, List, Bool, true, false};
-ghost use Rattle.locked_tables.specs.Held.{AreAmong, lanes_next};
+ghost use Rattle.locked_tables.specs.Held.{lanes_next};
 ghost use Rattle.locked_tables.specs.Known.{LearnsPlace};
-ghost use Rattle.locked_tables.specs.Placing.{AddsLanes, CanPlace, IsPlaced, lane_where, lanes_held};
+ghost use Rattle.locked_tables.specs.Placing.{AddsLanes, CanPlace, IsPlaced, IsReadyFor, lane_where, lanes_held};
 ghost use Rattle.locked_tables.specs.Taken.{archive_lane, journal_lane, party_lane};
 ghost use Rattle.locked_tables.specs.declared.taken.Taken.{Taken as AnyTaken};
 
@@ -42,9 +42,8 @@ pub trait JournalLane<N: Naming> {
         lanes: u32,
         taken: Taken,
     ) -> u32
-        requires run { order.old.run ≡ N.run }
-        requires can { CanPlace N.run N.rows N.places order.old.list held.old pass.old taken }
-        requires checked { AreAmong lanes order.old.checked }
+        requires ready { IsReadyFor N.run lanes order.old }
+        requires can { CanPlace N.rows N.places held.old pass.old taken }
         ensures placed { IsPlaced N.run order.old order.new pass.old pass.new (record taken { lanes = result }) }
         ensures lanes { AddsLanes lanes (lane_where is_held journal_lane ++ party_lane pass.old.party ∷ lanes_next held.old) result }
         ensures journal { Learns order.old.list order.new.list self.old self.new };
@@ -70,8 +69,8 @@ pub trait ArchiveLane<N: Naming> {
         pass: &mut PartyPass<N>,
         taken: Taken,
     ) -> u32
-        requires run { order.old.run ≡ N.run }
-        requires can { CanPlace N.run N.rows N.places order.old.list held.old pass.old taken }
+        requires ready { IsReadyFor N.run 0 order.old }
+        requires can { CanPlace N.rows N.places held.old pass.old taken }
         requires fits { is_held ≡ true → taken.end ≤ 2 ^ 63 - 1 }
         ensures placed { IsPlaced N.run order.old order.new pass.old pass.new (record taken { lanes = result }) }
         ensures lanes { AddsLanes 0 (lanes_held is_held J.is_held ++ party_lane pass.old.party ∷ lanes_next held.old) result }

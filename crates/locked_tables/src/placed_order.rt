@@ -164,7 +164,8 @@ impl<N: Naming> PlacedOrder<N> {
         ensures touches { TouchesLanes N.run (record taken { lanes = result }) A.is_held J.is_held pass.old.party (lanes_next held.old) }
         ensures archive { A.Learns self.old self.new archive.old archive.new }
         ensures journal { J.Learns self.old self.new journal.old journal.new }
-        ensures rows { (table : TableId) → rows_after N.rows self.new table ≡ changed_by (rows_after N.rows self.old) taken.changes table }
+        ensures rows { (table : TableId) →
+            rows_after N.rows self.new table ≡ changed_by (rows_after N.rows self.old) taken.changes table }
         ensures end { end_after N.end self.new ≡ (if A.is_held then taken.end else end_after N.end self.old) }
     {
         let place = taken.place();

@@ -3,8 +3,8 @@ ghost use Rattle.std.specs.Prelude.{◌≡◌, ◌+◌, ◌-◌, ◌^◌, ◌<�
 ghost use Rattle.std.specs.List.{AllByRecursion};
 ghost use Rattle.order_words.specs.Lanes.{has_lane};
 ghost use Rattle.locked_tables.specs.Known.{IsStill};
-ghost use Rattle.locked_tables.specs.Held.{AllHaveLearnt, AllNext, AllStill, AreAmong, HasLearnt, HaveLearntFrom, known_of, lanes_next};
-ghost use Rattle.locked_tables.specs.Placing.{AddsLanes, IsAnnounced};
+ghost use Rattle.locked_tables.specs.Held.{AllHaveLearnt, AllNext, AllStill, HasLearnt, HaveLearntFrom, known_of, lanes_next};
+ghost use Rattle.locked_tables.specs.Placing.{AddsLanes, IsAnnounced, IsReadyFor};
 
 use crate::held_table::HeldTable;
 use crate::naming::Naming;
@@ -67,13 +67,12 @@ pub(crate) fn announce_lane<N: Naming>(
     seat: &mut LaneSeat<Taken>,
     lanes: u32,
 ) -> u32
-    requires run { (order.old.run ≡ N.run) × (seat.old.run ≡ N.run) }
+    requires ready { IsReadyFor N.run lanes order.old }
+    requires run { seat.old.run ≡ N.run }
     requires rest { IsTrue seat.old.resting }
     requires low { seat.old.lane < 32 }
-    requires room { length order.old.list < 2 ^ 64 - 1 }
-    requires checked { AreAmong lanes order.old.checked }
+    ensures ready { IsReadyFor N.run result order.new }
     ensures announced { IsAnnounced lanes result order.old order.new seat.old seat.new }
-    ensures checked { AreAmong result order.new.checked }
 {
     words.orders.announce_next(order, seat);
     with_lane(lanes, seat.lane())
@@ -89,9 +88,7 @@ pub(crate) fn place_tables<N: Naming>(
     lanes: u32,
     taken: Taken,
 ) -> u32
-    requires run { order.old.run ≡ N.run }
-    requires room { length order.old.list < 2 ^ 64 - 1 }
-    requires checked { AreAmong lanes order.old.checked }
+    requires ready { IsReadyFor N.run lanes order.old }
     requires next { AllNext N.rows taken.changes held.old }
     ensures order { order.new ≡ record order.old { list = order.old.list ++ record taken { lanes = result } ∷ []; checked = [] } }
     ensures lanes { AddsLanes lanes (lanes_next held.old) result }
@@ -117,7 +114,8 @@ pub(crate) fn place_tables<N: Naming>(
 
 /// The last places that touched the tables, once a place that touches these lanes is behind them.
 pub(crate) fn touch_tables(touched: &mut [u64; 11], lanes: u32, place: u64)
-    ensures { (n : ℕ) → n < 11 → slice_index_or touched.new n 0 ≡ (if has_lane lanes n then place else slice_index_or touched.old n 0) }
+    ensures { (n : ℕ) → n < 11 →
+        slice_index_or touched.new n 0 ≡ (if has_lane lanes n then place else slice_index_or touched.old n 0) }
 {
     for number in 0..11 {
         if (lanes >> number) % 2 == 1 {

@@ -1,22 +1,13 @@
 use Rattle.std.proofs.Common.{◌∙◌, true, List, refl, sym, ap, subst}
 use Rattle.order_words.specs.Seats.{LaneState, OrderState}
 use Rattle.locked_tables.specs.Known.{LearnsPlace}
-use Rattle.locked_tables.specs.Placing.{CanPlace}
 use Rattle.locked_tables.specs.Taken.{archive_lane, end_after}
 use Rattle.locked_tables.specs.declared.taken.Taken.{Taken}
 use Rattle.locked_tables.proofs.Archive.{end_placed}
-use Rattle.locked_tables.proofs.Lanes.{has_this, none_among}
-use Rattle.locked_tables.proofs.Announced.{is_placed, lanes_with, learns, placed_behind, rests_again}
+use Rattle.locked_tables.proofs.Lanes.{has_this}
+use Rattle.locked_tables.proofs.Announced.{is_placed, lanes_with, last, learns, rests_again}
 use Rattle.locked_tables.proofs.Placed.{placed_around}
 use Rattle.locked_tables.proofs.held_lanes.LockedArchiveArchiveLane.place.Goals as goal
-
-pub announce_lane-lanes-requires-clause-checked : goal.announce_lane-lanes-requires-clause-checked
-announce_lane-lanes-requires-clause-checked g c = none_among c.args.order.now.checked
-
-pub place_from-all-requires-clause-can : goal.place_from-all-requires-clause-can
-place_from-all-requires-clause-can g c =
-    let announces = c.announce_lane-lanes.ensures.announced in
-    subst (λ (o : OrderState Taken). CanPlace g.N.Naming.run g.N.Naming.rows g.N.Naming.places o.list c.args.held.now c.args.pass.now c.args.taken) (sym announces.order) c.requires.can
 
 pub settle-requires-clause-placed : goal.settle-requires-clause-placed
 settle-requires-clause-placed g c = is_placed c.self.invariant.0 c.announce_lane-lanes.ensures.announced c.place_from-all.ensures.lanes c.args.taken c.place_from-all.ensures.placed.order
@@ -25,24 +16,22 @@ pub invariant_of-self : goal.invariant_of-self
 invariant_of-self g c =
     let end = g.N.Naming.end in
     let announces = c.announce_lane-lanes.ensures.announced in
-    let order = c.place_from-all.ensures.placed.order in
-    let touches = has_this (lanes_with c.self.invariant.0 announces c.place_from-all.ensures.lanes) in
-    let last = ap (λ (o : OrderState Taken). o.list) (placed_behind c.self.invariant.0 announces c.place_from-all.ensures.lanes c.args.taken order) in (
-      rests_again c.self.invariant.0 announces c.place_from-all.ensures.lanes c.args.taken order c.settle.ensures.lane c.settle.ensures.last,
-      sym (end_placed end _ _ (record c.args.taken { lanes = c.place_from-all.result }) true last touches) ∙ ap (λ (s : LaneState Taken). end_after end s.list) (sym c.settle.ensures.lane),
+    let all = c.place_from-all.ensures in (
+      rests_again c.self.invariant.0 announces all.lanes c.args.taken all.placed.order c.settle.ensures.lane c.settle.ensures.last,
+      sym (end_placed end _ _ (record c.args.taken { lanes = c.place_from-all.result }) true (last c.self.invariant.0 announces all.lanes c.args.taken all.placed.order) (has_this (lanes_with c.self.invariant.0 announces all.lanes)))
+          ∙ ap (λ (s : LaneState Taken). end_after end s.list) (sym c.settle.ensures.lane),
       c.requires.fits refl,
     )
 
 pub returns : goal.returns
 returns g c =
     let announces = c.announce_lane-lanes.ensures.announced in
-    let placed = c.place_from-all.ensures.placed in
-    let learnt = learns c.self.invariant.0 announces c.place_from-all.ensures.lanes c.args.taken placed.order c.settle.ensures.lane in
+    let all = c.place_from-all.ensures in
     record {
-      placed = placed_around announces placed c.settle.ensures.order;
-      lanes = lanes_with c.self.invariant.0 announces c.place_from-all.ensures.lanes;
-      archive = subst (λ (l : List Taken). LearnsPlace archive_lane c.args.order.now.list l c.args.self.now c.settle.new.lane.list) (ap (λ (o : OrderState Taken). o.list) (sym c.settle.ensures.order))
-          (subst (λ (l : List Taken). LearnsPlace archive_lane c.args.order.now.list c.place_from-all.new.order.list l c.settle.new.lane.list) c.self.view_is learnt);
+      placed = placed_around announces all.placed c.settle.ensures.order;
+      lanes = lanes_with c.self.invariant.0 announces all.lanes;
+      archive = subst (λ (l : List Taken). LearnsPlace archive_lane c.args.order.now.list c.settle.new.order.list l c.settle.new.lane.list) c.self.view_is
+          (learns c.self.invariant.0 announces all.lanes c.args.taken all.placed.order c.settle.ensures.lane c.settle.ensures.order);
       journal = subst (λ (o : OrderState Taken). g.J.JournalLane.Learns c.args.order.now.list o.list c.args.journal.now c.place_from-all.new.self) (sym c.settle.ensures.order)
-          (subst (λ (o : OrderState Taken). g.J.JournalLane.Learns o.list c.place_from-all.new.order.list c.args.journal.now c.place_from-all.new.self) announces.order c.place_from-all.ensures.journal);
+          (subst (λ (o : OrderState Taken). g.J.JournalLane.Learns o.list c.place_from-all.new.order.list c.args.journal.now c.place_from-all.new.self) announces.order all.journal);
     }

@@ -1,5 +1,6 @@
-use Rattle.std.proofs.Common.{◌≡◌, ◌≤◌, ℕ, List, [], ◌∷◌, ◌++◌, map, vec_capacity, sym, ap, subst, ◌∙◌, arith}
+use Rattle.std.proofs.Common.{◌≡◌, ◌≤◌, ℕ, List, [], ◌∷◌, ◌++◌, length, map, vec_capacity, sym, ap, subst, ◌∙◌, arith}
 use Rattle.std.specs.Prelude.{if◌then◌else◌}
+use Rattle.std.proofs.lemmas.List.{length-map}
 use mathlib.Core.List.{map-append}
 use Rattle.order_words.specs.Seats.{OrderState}
 use Rattle.table_changes.specs.Changed.{changed_by}
@@ -9,11 +10,17 @@ use Rattle.locked_tables.specs.Placing.{TakesPlace, TouchesLanes}
 use Rattle.locked_tables.specs.Taken.{end_after, place_of, rows_after}
 use Rattle.locked_tables.specs.declared.taken.Taken.{Taken}
 use Rattle.locked_tables.proofs.Archive.{end_placed}
-use Rattle.locked_tables.proofs.Lanes.{next_of_tables}
-use Rattle.locked_tables.proofs.Placed.{counts_kept, of_archive, parties_kept, rows_changed_by, tables_kept}
+use Rattle.locked_tables.proofs.Lanes.{next_of_tables, none_among}
+use Rattle.locked_tables.proofs.Placed.{counts_kept, of_archive, parties_kept, rows_changed_by, tables_kept, takes_place}
 use Rattle.locked_tables.proofs.Room.{has_room, left_behind}
 use Rattle.locked_tables.proofs.Touched.{touched_next}
 use Rattle.locked_tables.proofs.placed_order.PlacedOrder.place.Goals as goal
+
+pub place-lanes-requires-clause-ready : goal.place-lanes-requires-clause-ready
+place-lanes-requires-clause-ready g c =
+    let order = c.self.inside.seat.list in
+    let long = ap length c.self.invariant.1 ∙ length-map order place_of in
+    record { of_run = c.self.invariant.0; room = omega (arith, long, c.self.inside.places.ok.0); parties = c.self.invariant.3; checked = none_among c.self.inside.seat.checked }
 
 pub push_reserved-requires : goal.push_reserved-requires
 push_reserved-requires g c =
@@ -32,10 +39,9 @@ invariant_of-self g c =
     let after = c.place-lanes.new.order.list in
     let placed = c.place-lanes.ensures.placed in
     let entry : Taken = record c.args.taken { lanes = c.place-lanes.result } in
-    let held = c.args.held.now in
-    let touches : TouchesLanes g.N.Naming.run entry g.A.ArchiveLane.is_held g.J.JournalLane.is_held c.args.pass.now.party (lanes_next held) =
-    record { of_run = placed.party; below = next_of_tables held; are = c.place-lanes.ensures.lanes } in
-    let last : after ≡ order ++ entry ∷ [] = ap (λ (o : OrderState Taken). o.list) placed.order in
+    let touches : TouchesLanes g.N.Naming.run entry g.A.ArchiveLane.is_held g.J.JournalLane.is_held c.args.pass.now.party (lanes_next c.args.held.now) =
+    record { of_run = placed.party; below = next_of_tables c.args.held.now; are = c.place-lanes.ensures.lanes } in
+    let last = (takes_place placed).last in
     let items = c.push_reserved.ensures.items
     ∙ (λ i. c.self.invariant.1 i ++ c.place-place.ensures i ∷ [])
     ∙ sym (map-append place_of order (entry ∷ []))
@@ -54,24 +60,19 @@ returns-clause-touches g c = record { of_run = c.place-lanes.ensures.placed.part
 
 pub returns-clause-placed : goal.returns-clause-placed
 returns-clause-placed g c =
-    let after = c.place-lanes.new.order.list in
-    let placed = c.place-lanes.ensures.placed in
-    let entry : Taken = record c.args.taken { lanes = c.place-lanes.result } in
-    subst (λ (l : List Taken). TakesPlace l after c.args.pass.now c.place-lanes.new.pass entry) c.self.view_is
-    (record { last = ap (λ (o : OrderState Taken). o.list) placed.order; pass = placed.pass; own = placed.own })
+    subst (λ (l : List Taken). TakesPlace l c.place-lanes.new.order.list c.args.pass.now c.place-lanes.new.pass (record c.args.taken { lanes = c.place-lanes.result })) c.self.view_is (takes_place c.place-lanes.ensures.placed)
 
 pub returns-clause-end : goal.returns-clause-end
 returns-clause-end g c =
     let archive = g.A.ArchiveLane.is_held in
     let end = g.N.Naming.end in
     let after = c.place-lanes.new.order.list in
-    let entry : Taken = record c.args.taken { lanes = c.place-lanes.result } in
     subst (λ (l : List Taken). end_after end after ≡ (if archive then c.args.taken.end else end_after end l)) c.self.view_is
-    (end_placed end c.self.inside.seat.list after entry archive (ap (λ (o : OrderState Taken). o.list) c.place-lanes.ensures.placed.order) (of_archive (returns-clause-touches g c)))
+    (end_placed end c.self.inside.seat.list after _ archive (takes_place c.place-lanes.ensures.placed).last (of_archive (returns-clause-touches g c)))
 
 pub returns-clause-rows : goal.returns-clause-rows
 returns-clause-rows g c = λ table.
     let rows = g.N.Naming.rows in
     let after = c.place-lanes.new.order.list in
     subst (λ (l : List Taken). rows_after rows after table ≡ changed_by (rows_after rows l) c.args.taken.changes table) c.self.view_is
-    (rows_changed_by (returns-clause-touches g c) c.self.inside.seat.list after (ap (λ (o : OrderState Taken). o.list) c.place-lanes.ensures.placed.order) c.requires.only rows table)
+    (rows_changed_by (returns-clause-touches g c) c.self.inside.seat.list after (takes_place c.place-lanes.ensures.placed).last c.requires.only rows table)
