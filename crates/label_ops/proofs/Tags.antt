@@ -11,7 +11,7 @@ use Rattle.depot_rows.specs.depot_model.declared.command.FileArgument.{FileArgum
 use Rattle.depot_rows.specs.depot_model.declared.command.Labelling.{Labelling}
 use Rattle.depot_rows.specs.depot_model.declared.command.Labelling.TheVariants.{Exact, Adding, Removing}
 use Rattle.depot_rows.specs.depot_model.declared.request.Caller.{Caller}
-use Rattle.depot_rows.specs.depot_model.Arguments.{named, no_file, over, over_all, submitted, within_files}
+use Rattle.depot_rows.specs.depot_model.Arguments.{named, no_file, over_all, submitted, within_files}
 use Rattle.depot_rows.specs.depot_model.Choice.{Choice, PassedOver, At, chosen}
 use Rattle.depot_rows.specs.depot_model.Deeds.{Deed, Tag}
 use Rattle.depot_rows.specs.depot_model.Revisions.{is_live_at}
@@ -20,7 +20,7 @@ use Rattle.depot_rows.specs.depot_model.Steps.Tagging.{live_choice, synced_rev, 
 use Rattle.depot_rows.proofs.Keys.{number-is, number-self}
 use Rattle.depot_rows.specs.Effects.{Follow}
 use Rattle.depot_rows.specs.declared.deed.Deed.TheVariants as dones
-use Rattle.label_ops.specs.Tagged.{asked, is_head, labelling_of, synced, tag_step, taken}
+use Rattle.label_ops.specs.Tagged.{asked, is_head, labelling_of, synced, tag_step, taken_files}
 
 -- ---- a revision in a label becomes another one, or stays
 
@@ -89,7 +89,7 @@ asked_own false wanted e = refl
 
 -- what `tag` and `labelsync` do with files
 pub tags : (d : List Deed) (caller : Caller) (label : List ℕ) (removes : Bool) (arguments : List FileArgument)
-    → over (named false d caller (submitted d)) no_file (taken (labelling_of removes) false d caller label) [] arguments ≡ tag_files d caller label removes arguments
+    → taken_files false (labelling_of removes) false d caller label arguments ≡ tag_files d caller label removes arguments
 tags d caller label true arguments = refl
 tags d caller label false arguments = refl
 

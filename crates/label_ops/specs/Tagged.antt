@@ -8,7 +8,7 @@ use Rattle.depot_rows.specs.depot_model.declared.command.FileArgument.{FileArgum
 use Rattle.depot_rows.specs.depot_model.declared.command.Labelling.{Labelling}
 use Rattle.depot_rows.specs.depot_model.declared.command.Labelling.TheVariants.{Exact, Adding, Removing}
 use Rattle.depot_rows.specs.depot_model.declared.request.Caller.{Caller}
-use Rattle.depot_rows.specs.depot_model.Arguments.{named, no_file, over_all, submitted, within_files}
+use Rattle.depot_rows.specs.depot_model.Arguments.{named, no_file, over, over_all, submitted, within_files}
 use Rattle.depot_rows.specs.depot_model.Deeds.{Deed, Tag}
 use Rattle.depot_rows.specs.depot_model.Step.{Step, both, does}
 use Rattle.depot_rows.specs.depot_model.Values.{valued}
@@ -43,12 +43,18 @@ abbrev pub taken : Labelling → Bool → List Deed → Caller → List ℕ → 
 taken labelling have d caller label argument path =
     tag_file d caller label path (rev_by labelling d caller label (asked have argument.spec.wanted) path)
 
+-- what is done with the files that arguments name, and without arguments with all files or with none
+abbrev pub taken_files : Bool → Labelling → Bool → List Deed → Caller → List ℕ → List FileArgument → Step
+taken_files all labelling have d caller label files =
+    if all then over_all (named false d caller (submitted d)) no_file (taken labelling have d caller label) files
+    else over (named false d caller (submitted d)) no_file (taken labelling have d caller label) [] files
+
 -- `tag` of a label that isn't locked, and `labelsync` of one that isn't refused
 abbrev pub tagged : List Deed → Caller → List ℕ → Bool → List FileArgument → Step
 tagged d caller label removes files = within_files (both (record { deeds = made_label d label; rows = [] }) (tag_files d caller label removes files))
 
 abbrev pub synced : List Deed → Caller → List ℕ → Labelling → List FileArgument → Step
-synced d caller label labelling files = within_files (over_all (named false d caller (submitted d)) no_file (taken labelling true d caller label) files)
+synced d caller label labelling files = within_files (taken_files true labelling true d caller label files)
 
 -- what becomes of a revision, 0 for none
 abbrev pub word_of : ℕ → ℕ → List ℕ

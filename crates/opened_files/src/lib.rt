@@ -1,7 +1,6 @@
 //! What the commands do that work on opened files, as deeds and rows of replies.
 #![tactic(auto)]
 
-mod action_rows;
 mod adding;
 mod editing;
 mod had;
@@ -11,15 +10,13 @@ mod partners;
 mod reopening;
 mod reverting;
 mod showing;
-mod unlocking;
 
 pub use adding::add;
 pub use editing::{delete, edit};
 pub use had::had_type;
-pub use locking::lock;
+pub use locking::{lock, unlock};
 pub use moving::move_files;
 pub use partners::partner_of;
 pub use reopening::reopen;
 pub use reverting::revert;
 pub use showing::opened;
-pub use unlocking::unlock;

@@ -12,6 +12,7 @@ ghost use Rattle.named_files.specs.Asked.{IsAsker};
 ghost use Rattle.reply_rows.specs.Made.{IsMade};
 ghost use Rattle.opened_files.specs.Locks.{Reads};
 
+use crate::locking::over_selected;
 use command_parts::reopened_change_refusal;
 use depot_rows::Opening;
 use depot_rows::model::{Caller, FileArgument, Row};
@@ -19,8 +20,8 @@ use depot_rows::paths::{DepotPath, Text};
 use depot_rows::protections::Level;
 use depot_rows::tables::Tables;
 use file_openings::opening_of;
-use file_steps::{FileAct, over, within_files};
-use named_files::{Asker, SelectedFiles};
+use file_steps::FileAct;
+use named_files::Asker;
 use opening_parts::right_refusal;
 use opening_reads::reopened_in;
 use reply_rows::{RowBuilder, Step};
@@ -100,17 +101,11 @@ pub fn reopen(
     if let Some(row) = reopened_change_refusal(alloc, tables, caller, change)? {
         return Step::tells(alloc, row);
     }
-    let files = SelectedFiles {
-        caller,
-        asker,
-        change: None,
-    };
     let reopening = Reopening {
         caller,
         asker,
         change,
         file_type,
     };
-    let done = over(alloc, tables, &files, &reopening, arguments)?;
-    within_files(alloc, done)
+    over_selected(alloc, tables, caller, asker, None, arguments, &reopening)
 }

@@ -9,7 +9,7 @@ use Rattle.reply_rows.specs.Made.{IsMade}
 use Rattle.reply_rows.proofs.Joined.{made_refusal}
 use Rattle.label_ops.specs.Tagged.{synced}
 use Rattle.label_ops.proofs.Tags.{syncs}
-use Rattle.label_ops.proofs.labelling.labelsync.Goals as goal
+use Rattle.label_ops.proofs.tagging.labelsync.Goals as goal
 
 abbrev refused_by : List ℕ → ModelStep → Bool → Bool → ModelStep
 refused_by label whole there locked = unless (refuse_if (not there) (NoSuchLabel label) ∷ refuse_if locked (LabelLocked label) ∷ []) whole
@@ -47,7 +47,7 @@ returns c = λ d sound asked domain have has_label change rev.
     (syncs d c.args.caller.now label labelling c.args.arguments.now)
     (subst (λ (b : Bool). IsMade rows d d (refused_by label whole b (is_locked d label)) c.in_ok-step.step) (sym c.if-not-there.false ∙ c.in_ok-there.ensures d domain)
     (subst (λ (b : Bool). IsMade rows d d (refused_by label whole true b) c.in_ok-step.step) (sym c.if-locked.false ∙ c.in_ok-locked.ensures d sound domain)
-    (c.in_ok-step.ensures d (record {
+    (c.in_ok-step.ensures rows d d _ (c.in_ok-whole.ensures d (record {
       sound = sound;
       asked = asked;
       listed = rev;
@@ -56,4 +56,4 @@ returns c = λ d sound asked domain have has_label change rev.
       has_domain = domain;
       has_rev = rev;
       has_change = change;
-    }))))
+    })))))

@@ -16,8 +16,8 @@ use Rattle.reply_rows.proofs.Joined.{made_done}
 use Rattle.command_parts.proofs.Refused.{first_told, if_ok, passed_first}
 use Rattle.opened_files.proofs.Locked.{may_free}
 use Rattle.opened_files.specs.Locks.{Reads, unlocking}
-use Rattle.opened_files.specs.declared.unlocking.Unlocking.{Unlocking}
-use Rattle.opened_files.proofs.unlocking.UnlockingFileAct.act.Goals as goal
+use Rattle.opened_files.specs.declared.locking.Unlocking.{Unlocking}
+use Rattle.opened_files.proofs.locking.UnlockingFileAct.act.Goals as goal
 
 abbrev Done : AllRows → Unlocking → List ℕ → Step → Type 0
 Done rows own path step =
