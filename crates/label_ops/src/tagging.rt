@@ -34,9 +34,9 @@ fn take_files<'a>(
     arguments: &[FileArgument],
 ) -> Result<Step, AllocError>
     ensures { IfOk result (λ step. (d : List Deed) →
-        ShownReads taking.caller.now taking.asker.now Submitted (rows_of tables.now) d →
-        IsMade (rows_of tables.now) d d
-        (taken_files all taking.labelling taking.have d taking.caller.now taking.label.now arguments.now) step) }
+        ShownReads taking.entry.caller.now taking.entry.asker.now Submitted (rows_of tables.now) d →
+        IsMade (rows_of tables.now) d d (taken_files all taking.entry.labelling taking.entry.have d
+        taking.entry.caller.now taking.entry.label.now arguments.now) step) }
 {
     let files = ShownFiles {
         caller: taking.caller,
