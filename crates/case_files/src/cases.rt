@@ -4,7 +4,7 @@ ghost use Rattle.std.specs.Prelude.{◌≤◌, ◌<◌, length};
 ghost use Rattle.std.specs.Iterator.{at_most};
 
 use crate::fault::CaseFault;
-use crate::step::{Step, cut, damage, every_call, fail, file, gate, more, script, show, stops};
+use crate::step::{Step, Words, cut, damage, every_call, fail, gate, show, stops};
 
 /// A line of a file of cases.
 #[derive(Clone, Copy)]
@@ -56,11 +56,14 @@ impl<'a> Cases<'a> {
         line
     }
 
-    /// Takes so many bytes that a line announces.
-    fn take_bytes(&mut self, size: u64) -> Result<&'a [u8], CaseFault>
+    /// Takes so many bytes that a line announces, behind whose words nothing is left.
+    fn take_bytes(&mut self, words: Words<'a>, size: u64) -> Result<&'a [u8], CaseFault>
         ensures { length self.new.rest.now ≤ length self.old.rest.now }
     {
-        let bytes = self.take_block(size as usize).ok_or(CaseFault::CutScript)?;
+        words.end(())?;
+        let Some(bytes) = self.take_block(size as usize) else {
+            return Err(CaseFault::CutScript);
+        };
         let feeds = bytes.iter().filter(|byte| **byte == b'\n').count();
         self.lines = self.lines.saturating_add(1).saturating_add(feeds as u64);
         Ok(bytes)
@@ -70,8 +73,10 @@ impl<'a> Cases<'a> {
     fn take_script(&mut self, text: &'a str) -> Result<Step<'a>, CaseFault>
         ensures { length self.new.rest.now ≤ length self.old.rest.now }
     {
-        let (name, length) = script(text)?;
-        let bytes = self.take_bytes(length)?;
+        let mut words = Words::new(text);
+        let name = words.word();
+        let length = words.number();
+        let bytes = self.take_bytes(words, length)?;
         Ok(Step::Script { name, bytes })
     }
 
@@ -79,8 +84,11 @@ impl<'a> Cases<'a> {
     fn take_more(&mut self, text: &'a str) -> Result<Step<'a>, CaseFault>
         ensures { length self.new.rest.now ≤ length self.old.rest.now }
     {
-        let (name, count, length) = more(text)?;
-        let bytes = self.take_bytes(length)?;
+        let mut words = Words::new(text);
+        let name = words.word();
+        let count = words.number();
+        let length = words.number();
+        let bytes = self.take_bytes(words, length)?;
         Ok(Step::More { name, count, bytes })
     }
 
@@ -88,8 +96,11 @@ impl<'a> Cases<'a> {
     fn take_file(&mut self, text: &'a str) -> Result<Step<'a>, CaseFault>
         ensures { length self.new.rest.now ≤ length self.old.rest.now }
     {
-        let (disk, file, length) = file(text)?;
-        let bytes = self.take_bytes(length)?;
+        let mut words = Words::new(text);
+        let disk = words.disk();
+        let file = words.short_number();
+        let length = words.number();
+        let bytes = self.take_bytes(words, length)?;
         Ok(Step::File { disk, file, bytes })
     }
 
@@ -97,7 +108,9 @@ impl<'a> Cases<'a> {
     fn step(&mut self, line: &'a [u8]) -> Result<Step<'a>, CaseFault>
         ensures { length self.new.rest.now ≤ length self.old.rest.now }
     {
-        let line = str::from_utf8(line).or(Err(CaseFault::NotText))?;
+        let Ok(line) = str::from_utf8(line) else {
+            return Err(CaseFault::NotText);
+        };
         if line.is_empty() || line.starts_with('#') {
             return Ok(Step::Skip);
         }

@@ -1,13 +1,10 @@
 //! Disks of a case: changed by hand, and copied for runs in which calls fail.
 
-use crate::fault::{CaseFault, put};
+use crate::fault::{CaseFault, both};
 use crate::step::{DiskName, Failure, Outside};
 use memory_world::MemoryDisk;
 use outside_api::{Disk, fill};
 use std::alloc::{AllocError, Global};
-
-/// The number behind that of the last file that a disk may have: the journal of generation 4,095 and its checkpoint.
-const FILES: u32 = 8193;
 
 /// The disks of a depot.
 #[derive(Drop)]
@@ -25,13 +22,6 @@ pub struct Sites {
     pub node: Disks,
 }
 
-/// A disk that was copied, and how many calls that took.
-#[derive(Drop)]
-struct Copied {
-    disk: MemoryDisk,
-    calls: u64,
-}
-
 /// A disk of empty files.
 fn empty_disk(alloc: Global) -> MemoryDisk {
     MemoryDisk::new(Vec::new(alloc))
@@ -46,41 +36,29 @@ impl Disks {
         }
     }
 
-    /// Copies, by the names of their disks, in which these calls behind their making fail, and the moment of the
-    /// journal's disk at which they are made.
+    /// Copies, by the names of their disks, in which these calls fail.
     fn failing_copies(
         &mut self,
         alloc: Global,
         failures: &[Failure],
         journal: DiskName,
         archive: DiskName,
-    ) -> Result<(Disks, u64), CaseFault> {
-        let archive = failing_copy(alloc, &mut self.archive, failures, archive)?.disk;
-        match failing_copy(alloc, &mut self.journal, failures, journal) {
-            Ok(
-                Copied {
-                    disk: journal,
-                    calls,
-                },
-            ) => Ok((Disks { journal, archive }, calls)),
-            Err(fault) => {
-                drop(archive);
-                Err(fault)
-            }
-        }
+    ) -> Result<Disks, CaseFault> {
+        let (journal, archive) = both(
+            failing_copy(alloc, &mut self.journal, failures, journal),
+            failing_copy(alloc, &mut self.archive, failures, archive),
+        )?;
+        Ok(Disks { journal, archive })
     }
 
     /// What a stop at a moment of the journal's disk leaves, with the archive's disk as it is now. The open bytes of
     /// each are those of a text and then 0.
     fn stopped(&self, moment: u64, pick: &[u8]) -> Result<Disks, AllocError> {
-        let journal = self.journal.image(moment, pick)?;
-        match self.archive.image(u64::MAX, pick) {
-            Ok(archive) => Ok(Disks { journal, archive }),
-            Err(AllocError) => {
-                drop(journal);
-                Err(AllocError)
-            }
-        }
+        let (journal, archive) = both(
+            self.journal.image(moment, pick),
+            self.archive.image(u64::MAX, pick),
+        )?;
+        Ok(Disks { journal, archive })
     }
 }
 
@@ -103,42 +81,33 @@ impl Sites {
         }
     }
 
-    /// Copies in which these calls behind their making fail, and the moment of the depot's journal's disk at which they
-    /// are made.
+    /// Copies in which these calls fail.
     pub fn failing_copies(
         &mut self,
         alloc: Global,
         failures: &[Failure],
-    ) -> Result<(Sites, u64), CaseFault> {
-        let (node, _) = self.node.failing_copies(
-            alloc,
-            failures,
-            DiskName::NodeJournal,
-            DiskName::NodeArchive,
+    ) -> Result<Sites, CaseFault> {
+        let (depot, node) = both(
+            self.depot
+                .failing_copies(alloc, failures, DiskName::Journal, DiskName::Archive),
+            self.node.failing_copies(
+                alloc,
+                failures,
+                DiskName::NodeJournal,
+                DiskName::NodeArchive,
+            ),
         )?;
-        match self
-            .depot
-            .failing_copies(alloc, failures, DiskName::Journal, DiskName::Archive)
-        {
-            Ok((depot, begin)) => Ok((Sites { depot, node }, begin)),
-            Err(fault) => {
-                drop(node);
-                Err(fault)
-            }
-        }
+        Ok(Sites { depot, node })
     }
 
     /// What a stop at a moment of the depot's journal's disk leaves, with the other disks as they are now. The open
     /// bytes of each are those of a text and then 0.
     pub fn stopped(&self, moment: u64, pick: &[u8]) -> Result<Sites, AllocError> {
-        let depot = self.depot.stopped(moment, pick)?;
-        match self.node.stopped(u64::MAX, pick) {
-            Ok(node) => Ok(Sites { depot, node }),
-            Err(AllocError) => {
-                drop(depot);
-                Err(AllocError)
-            }
-        }
+        let (depot, node) = both(
+            self.depot.stopped(moment, pick),
+            self.node.stopped(u64::MAX, pick),
+        )?;
+        Ok(Sites { depot, node })
     }
 }
 
@@ -167,8 +136,10 @@ pub fn cut<D: Disk>(disk: &mut D, file: u32, length: u64) -> Result<(), CaseFaul
 
 /// Lets a file be these bytes.
 pub fn put_file<D: Disk>(disk: &mut D, file: u32, bytes: &[u8]) -> Result<(), CaseFault> {
-    disk.cut(file, 0).or(Err(CaseFault::DiskFailed))?;
-    disk.write_at(file, 0, bytes).or(Err(CaseFault::DiskFailed))
+    if disk.cut(file, 0).is_err() || disk.write_at(file, 0, bytes).is_err() {
+        return Err(CaseFault::DiskFailed);
+    }
+    Ok(())
 }
 
 /// Adds the numbers of the calls of a failure.
@@ -194,67 +165,35 @@ pub fn failing_calls(
     Ok(calls)
 }
 
-/// So many bytes that are 0.
-fn zeros(alloc: Global, length: usize) -> Result<Vec<u8>, AllocError> {
-    Ok(vec![in alloc; 0u8; length]?)
-}
-
 /// The bytes of a file.
 pub fn bytes_of(alloc: Global, disk: &mut MemoryDisk, file: u32) -> Result<Vec<u8>, CaseFault> {
-    let length = disk.length(file).or(Err(CaseFault::DiskFailed))?;
-    let mut bytes = zeros(alloc, length as usize)?;
+    let Ok(length) = disk.length(file) else {
+        return Err(CaseFault::DiskFailed);
+    };
+    let mut bytes = vec![in alloc; 0u8; length as usize]?;
     match fill(disk, file, 0, &mut bytes) {
         Ok(_) => Ok(bytes),
-        Err(_) => Err(CaseFault::DiskFailed),
-    }
-}
-
-/// The bytes of the files of a disk, up to the second of two neighbours that are empty.
-fn files_of(alloc: Global, disk: &mut MemoryDisk) -> Result<Vec<Vec<u8>>, CaseFault> {
-    let mut files = Vec::new(alloc);
-    let mut was_empty = false;
-    for file in 0..FILES {
-        let bytes = bytes_of(alloc, disk, file)?;
-        let is_empty = bytes.is_empty();
-        put(&mut files, bytes)?;
-        if is_empty && was_empty {
-            break;
+        Err(_) => {
+            drop(bytes);
+            Err(CaseFault::DiskFailed)
         }
-        was_empty = is_empty;
     }
-    Ok(files)
 }
 
-/// Writes files, and syncs them.
-fn write_files(disk: &mut MemoryDisk, files: &[Vec<u8>]) -> Result<(), CaseFault> {
-    let mut file = 0u32;
-    for bytes in files {
-        disk.write_at(file, 0, bytes)
-            .or(Err(CaseFault::DiskFailed))?;
-        file = file.saturating_add(1);
-    }
-    disk.sync().or(Err(CaseFault::DiskFailed))
-}
-
-/// A copy of the disk of a name in which calls behind its making fail.
+/// A copy of the disk of a name in which these calls fail. The disk is synced, so that no bytes are open in what a stop
+/// now would leave.
 fn failing_copy(
     alloc: Global,
     disk: &mut MemoryDisk,
     failures: &[Failure],
     name: DiskName,
-) -> Result<Copied, CaseFault> {
-    let fails = failing_calls(alloc, failures, Outside::Disk(name))?;
-    let files = files_of(alloc, disk)?;
-    let calls = (files.len() as u64).saturating_add(1);
-    let mut copy = empty_disk(alloc);
-    match write_files(&mut copy, &files) {
-        Ok(()) => Ok(Copied {
-            disk: copy.with_fails(fails),
-            calls,
-        }),
-        Err(fault) => {
-            drop(copy);
-            Err(fault)
-        }
+) -> Result<MemoryDisk, CaseFault> {
+    if disk.sync().is_err() {
+        return Err(CaseFault::DiskFailed);
+    }
+    let calls = failing_calls(alloc, failures, Outside::Disk(name));
+    match both(disk.image(u64::MAX, &[]), calls) {
+        Ok((copy, calls)) => Ok(copy.with_fails(calls)),
+        Err(AllocError) => Err(CaseFault::Memory),
     }
 }

@@ -3,6 +3,7 @@
 ghost use Rattle.std.specs.Thread.{IsSync};
 
 use crate::disks::{Sites, failing_calls};
+use crate::fault::{both, put};
 use crate::gate::CaseGate;
 use crate::step::{Failure, Outside};
 use depot_path::Text;
@@ -58,6 +59,21 @@ pub struct Ran {
     pub out: MemorySink,
 }
 
+impl Ran {
+    /// The disks.
+    pub fn into_sites(self) -> Sites {
+        let Ran {
+            status: _,
+            sites,
+            sinks,
+            out,
+        } = self;
+        drop(sinks);
+        drop(out);
+        sites
+    }
+}
+
 /// A server that cases run.
 pub trait Server {
     /// Runs it by a runtime in a setting over disks, with a gate. The only error is want of memory for what is told of
@@ -74,26 +90,26 @@ pub trait Server {
 
 /// The door of a script.
 fn door(alloc: Global, script: &Script, failures: &[Failure]) -> Result<Door, AllocError> {
-    let name = Text::from_bytes(alloc, script.name.as_bytes())?;
-    let bytes = Text::from_bytes(alloc, script.text.as_bytes())?;
-    let reads = failing_calls(alloc, failures, Outside::Source(script.name))?;
-    let writes = failing_calls(alloc, failures, Outside::Sink(script.name))?;
+    let texts = both(
+        Text::from_bytes(alloc, script.name.as_bytes()),
+        Text::from_bytes(alloc, script.text.as_bytes()),
+    );
+    let calls = both(
+        failing_calls(alloc, failures, Outside::Source(script.name)),
+        failing_calls(alloc, failures, Outside::Sink(script.name)),
+    );
+    let ((name, bytes), (reads, writes)) = both(texts, calls)?;
     let source = MemorySource::new(bytes, reads);
     Ok(Door::new(name, source, MemorySink::new(writes)))
 }
 
 /// The doors of these scripts.
-fn doors(
-    alloc: Global,
-    scripts: &[Script],
-    failures: &[Failure],
-) -> Result<MemoryDoors, AllocError> {
-    let calls = failing_calls(alloc, failures, Outside::Doors)?;
+fn doors(alloc: Global, scripts: &[Script], failures: &[Failure]) -> Result<Vec<Door>, AllocError> {
     let mut doors = Vec::new(alloc);
     for script in scripts {
-        doors.push(door(alloc, script, failures)?)?;
+        put(&mut doors, door(alloc, script, failures)?)?;
     }
-    Ok(MemoryDoors::new(doors, calls))
+    Ok(doors)
 }
 
 /// The words between the spaces of a text, none of an empty one.
@@ -115,31 +131,16 @@ impl<'a> Setting<'a> {
         scripts: &[Script],
         failures: &[Failure],
     ) -> Result<Self, AllocError> {
-        let words = words(alloc, text)?;
-        let fails = failing_calls(alloc, failures, Outside::Out)?;
-        let doors = doors(alloc, scripts, failures)?;
+        let given = both(words(alloc, text), doors(alloc, scripts, failures));
+        let calls = both(
+            failing_calls(alloc, failures, Outside::Doors),
+            failing_calls(alloc, failures, Outside::Out),
+        );
+        let ((words, doors), (comes, gives)) = both(given, calls)?;
         Ok(Setting {
             words,
-            doors,
-            out: MemorySink::new(fails),
+            doors: MemoryDoors::new(doors, comes),
+            out: MemorySink::new(gives),
         })
-    }
-}
-
-/// Runs the server over disks with the words of a text by which it prints the rows of a depot: that of the depot's
-/// disks, or of the node's.
-pub fn dump<R: Threads + Wait + Sync, S: Server>(
-    rt: &R,
-    server: &S,
-    alloc: Global,
-    sites: Sites,
-    words: &str,
-) -> Result<Ran, AllocError> {
-    match Setting::new(alloc, words, &[], &[]) {
-        Ok(setting) => server.run(rt, setting, sites, &CaseGate::open()),
-        Err(AllocError) => {
-            drop(sites);
-            Err(AllocError)
-        }
     }
 }

@@ -174,141 +174,150 @@ fn disk_named(word: &str) -> Option<DiskName> {
     }
 }
 
-/// The words of a text that are still to be read.
+/// The words of a text that are still to be read. What one of them isn't is noted, and another is given in its place.
 #[derive(Clone, Copy)]
-struct Words<'a> {
+pub struct Words<'a> {
     left: Option<&'a str>,
+    fault: Option<CaseFault>,
 }
 
 impl<'a> Words<'a> {
     /// The words between the spaces of a text.
-    fn new(text: &'a str) -> Self {
-        Words { left: Some(text) }
+    pub fn new(text: &'a str) -> Self {
+        Words {
+            left: Some(text),
+            fault: None,
+        }
+    }
+
+    /// Notes a fault, unless there was one before.
+    fn note(&mut self, fault: CaseFault) {
+        if self.fault.is_none() {
+            self.fault = Some(fault);
+        }
+    }
+
+    /// What was found, or else another, and a fault.
+    fn found<T: Copy>(&mut self, found: Option<T>, other: T, fault: CaseFault) -> T {
+        match found {
+            Some(found) => found,
+            None => {
+                self.note(fault);
+                other
+            }
+        }
     }
 
     /// The next word.
-    fn word(&mut self) -> Result<&'a str, CaseFault> {
-        let left = self.left.ok_or(CaseFault::BadWords)?;
-        let Some((word, left)) = left.split_once(' ') else {
-            self.left = None;
-            return Ok(left);
-        };
-        self.left = Some(left);
-        Ok(word)
+    pub fn word(&mut self) -> &'a str {
+        let left = self.left;
+        let left = self.found(left, "", CaseFault::BadWords);
+        match left.split_once(' ') {
+            Some((word, left)) => {
+                self.left = Some(left);
+                word
+            }
+            None => {
+                self.left = None;
+                left
+            }
+        }
     }
 
     /// The next word as a number.
-    fn number(&mut self) -> Result<u64, CaseFault> {
-        self.word()?.parse().or(Err(CaseFault::BadNumber))
+    pub fn number(&mut self) -> u64 {
+        let number = self.word().parse().ok();
+        self.found(number, 0, CaseFault::BadNumber)
     }
 
     /// The disk that the next word names.
-    fn disk(&mut self) -> Result<DiskName, CaseFault> {
-        disk_named(self.word()?).ok_or(CaseFault::UnknownDisk)
+    pub fn disk(&mut self) -> DiskName {
+        let disk = disk_named(self.word());
+        self.found(disk, DiskName::Journal, CaseFault::UnknownDisk)
     }
 
     /// The object that the next words name.
-    fn outside(&mut self) -> Result<Outside<'a>, CaseFault> {
-        let word = self.word()?;
+    fn outside(&mut self) -> Outside<'a> {
+        let word = self.word();
         if let Some(disk) = disk_named(word) {
-            return Ok(Outside::Disk(disk));
+            return Outside::Disk(disk);
         }
         match word {
-            "doors" => Ok(Outside::Doors),
-            "out" => Ok(Outside::Out),
-            "source" => Ok(Outside::Source(self.word()?)),
-            "sink" => Ok(Outside::Sink(self.word()?)),
-            _ => Err(CaseFault::UnknownObject),
+            "doors" => Outside::Doors,
+            "out" => Outside::Out,
+            "source" => Outside::Source(self.word()),
+            "sink" => Outside::Sink(self.word()),
+            _ => {
+                self.note(CaseFault::UnknownObject);
+                Outside::Doors
+            }
         }
     }
 
     /// Which calls fail by the next word.
-    fn extent(&mut self) -> Result<Extent, CaseFault> {
-        match self.word()? {
-            "one" => Ok(Extent::One),
-            "on" => Ok(Extent::On),
-            _ => Err(CaseFault::UnknownExtent),
+    fn extent(&mut self) -> Extent {
+        match self.word() {
+            "one" => Extent::One,
+            "on" => Extent::On,
+            _ => {
+                self.note(CaseFault::UnknownExtent);
+                Extent::One
+            }
         }
     }
 
     /// All that is left, between which spaces stand.
-    fn rest(self) -> &'a str {
-        self.left.unwrap_or("")
+    fn rest(&mut self) -> &'a str {
+        self.left.take().unwrap_or("")
     }
 
     /// The next word as a number below `2 ^ 32`.
-    fn short_number(&mut self) -> Result<u32, CaseFault> {
-        u32::try_from(self.number()?).or(Err(CaseFault::BadNumber))
+    pub fn short_number(&mut self) -> u32 {
+        let number = u32::try_from(self.number()).ok();
+        self.found(number, 0, CaseFault::BadNumber)
     }
 
     /// The next two words as a party and the number of a command of it.
-    fn command(&mut self) -> Result<(u32, u32), CaseFault> {
-        let party = self.short_number()?;
-        let number = self.short_number()?;
-        Ok((party, number))
+    fn command(&mut self) -> (u32, u32) {
+        (self.short_number(), self.short_number())
     }
 
     /// What the gate waits for that the next word names.
-    fn gate_form(&mut self) -> Result<GateForm, CaseFault> {
-        match self.word()? {
-            "turn" => Ok(GateForm::Turn),
-            "meet" => Ok(GateForm::Meet),
-            _ => Err(CaseFault::UnknownGate),
+    fn gate_form(&mut self) -> GateForm {
+        match self.word() {
+            "turn" => GateForm::Turn,
+            "meet" => GateForm::Meet,
+            _ => {
+                self.note(CaseFault::UnknownGate);
+                GateForm::Turn
+            }
         }
     }
 
     /// The next word as a byte.
-    fn byte(&mut self) -> Result<u8, CaseFault> {
-        u8::try_from(self.number()?).or(Err(CaseFault::BadNumber))
+    fn byte(&mut self) -> u8 {
+        let byte = u8::try_from(self.number()).ok();
+        self.found(byte, 0, CaseFault::BadNumber)
     }
 
-    /// No word is left.
-    fn end(self) -> Result<(), CaseFault> {
-        match self.left {
-            None => Ok(()),
-            Some(_) => Err(CaseFault::BadWords),
+    /// What the words ask, where they have no fault and none is left.
+    pub fn end<T: Copy>(self, asked: T) -> Result<T, CaseFault> {
+        match self.fault {
+            Some(fault) => Err(fault),
+            None if self.left.is_some() => Err(CaseFault::BadWords),
+            None => Ok(asked),
         }
     }
-}
-
-/// The name and the length of a script.
-pub fn script<'a>(text: &'a str) -> Result<(&'a str, u64), CaseFault> {
-    let mut words = Words::new(text);
-    let name = words.word()?;
-    let length = words.number()?;
-    words.end()?;
-    Ok((name, length))
-}
-
-/// The name of a script, and how often so many bytes are put behind it.
-pub fn more<'a>(text: &'a str) -> Result<(&'a str, u64, u64), CaseFault> {
-    let mut words = Words::new(text);
-    let name = words.word()?;
-    let count = words.number()?;
-    let length = words.number()?;
-    words.end()?;
-    Ok((name, count, length))
-}
-
-/// A file of a disk, and a length.
-pub fn file(text: &str) -> Result<(DiskName, u32, u64), CaseFault> {
-    let mut words = Words::new(text);
-    let disk = words.disk()?;
-    let file = words.short_number()?;
-    let length = words.number()?;
-    words.end()?;
-    Ok((disk, file, length))
 }
 
 /// The gate of the next run.
 pub fn gate<'a>(text: &'a str) -> Result<Step<'a>, CaseFault> {
     let mut words = Words::new(text);
-    let form = words.gate_form()?;
-    let one = words.command()?;
-    let other = words.command()?;
-    let turns = words.number()?;
-    words.end()?;
-    Ok(Step::Gate(GatePlan {
+    let form = words.gate_form();
+    let one = words.command();
+    let other = words.command();
+    let turns = words.number();
+    words.end(Step::Gate(GatePlan {
         form,
         one,
         other,
@@ -317,27 +326,21 @@ pub fn gate<'a>(text: &'a str) -> Result<Step<'a>, CaseFault> {
 }
 
 /// The bytes of a file.
-pub fn show<'a>(text: &'a str) -> Result<Step<'a>, CaseFault> {
-    let mut words = Words::new(text);
-    let disk = words.disk()?;
-    let file = words.short_number()?;
-    words.end()?;
-    Ok(Step::Show {
-        line: text,
-        disk,
-        file,
-    })
+pub fn show<'a>(line: &'a str) -> Result<Step<'a>, CaseFault> {
+    let mut words = Words::new(line);
+    let disk = words.disk();
+    let file = words.short_number();
+    words.end(Step::Show { line, disk, file })
 }
 
 /// The change of a byte.
 pub fn damage<'a>(text: &'a str) -> Result<Step<'a>, CaseFault> {
     let mut words = Words::new(text);
-    let disk = words.disk()?;
-    let file = words.short_number()?;
-    let place = words.number()?;
-    let byte = words.byte()?;
-    words.end()?;
-    Ok(Step::Damage {
+    let disk = words.disk();
+    let file = words.short_number();
+    let place = words.number();
+    let byte = words.byte();
+    words.end(Step::Damage {
         disk,
         file,
         place,
@@ -347,43 +350,46 @@ pub fn damage<'a>(text: &'a str) -> Result<Step<'a>, CaseFault> {
 
 /// The cut of a file.
 pub fn cut<'a>(text: &'a str) -> Result<Step<'a>, CaseFault> {
-    let (disk, file, length) = file(text)?;
-    Ok(Step::Cut { disk, file, length })
+    let mut words = Words::new(text);
+    let disk = words.disk();
+    let file = words.short_number();
+    let length = words.number();
+    words.end(Step::Cut { disk, file, length })
 }
 
 /// The calls that fail in the next run.
 pub fn fail<'a>(text: &'a str) -> Result<Step<'a>, CaseFault> {
     let mut words = Words::new(text);
-    let object = words.outside()?;
-    let extent = words.extent()?;
-    let first = words.number()?;
-    words.end()?;
-    Ok(Step::Fail(Failure::new(object, first, extent)))
+    let object = words.outside();
+    let extent = words.extent();
+    let first = words.number();
+    words.end(Step::Fail(Failure::new(object, first, extent)))
 }
 
 /// What stops leave: at each moment of a run, or, where the first word names a disk, behind runs in which one call of
 /// it after another fails.
-pub fn stops<'a>(text: &'a str) -> Step<'a> {
-    let (first, words) = text.split_once(' ').unwrap_or((text, ""));
-    match disk_named(first) {
+pub fn stops<'a>(line: &'a str) -> Step<'a> {
+    let mut words = Words::new(line);
+    match disk_named(words.word()) {
         Some(disk) => Step::NodeStops {
-            line: text,
+            line,
             disk,
-            words,
+            words: words.rest(),
         },
-        None => Step::Stops(text),
+        None => Step::Stops(line),
     }
 }
 
 /// The trial of failing calls.
-pub fn every_call<'a>(text: &'a str) -> Result<Step<'a>, CaseFault> {
-    let mut words = Words::new(text);
-    let extent = words.extent()?;
-    let object = words.outside()?;
-    Ok(Step::Every(Every {
-        line: text,
+pub fn every_call<'a>(line: &'a str) -> Result<Step<'a>, CaseFault> {
+    let mut words = Words::new(line);
+    let extent = words.extent();
+    let object = words.outside();
+    let words_of_runs = words.rest();
+    words.end(Step::Every(Every {
+        line,
         extent,
         object,
-        words: words.rest(),
+        words: words_of_runs,
     }))
 }
