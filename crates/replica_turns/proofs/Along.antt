@@ -40,7 +40,8 @@ use Rattle.replica_turns.specs.declared.party.ReplicaParty.{ReplicaParty}
 use Rattle.replica_turns.proofs.CutContents.{contents_told, cut_contents}
 use Rattle.replica_turns.proofs.Following.{follows_journal, has_texts, takes_journal}
 use Rattle.replica_turns.proofs.Moving.{pulled_of}
-use Rattle.replica_turns.proofs.Turns.{IsAskedWell, at_place, formed_of}
+use Rattle.depot_commit.proofs.Laws.{formed_of}
+use Rattle.replica_turns.proofs.Turns.{IsAskedWell, at_place}
 
 -- ---- one turn over a depot that replicas follow
 

@@ -1,20 +1,17 @@
 -- A replica's turns one after another.
-use Rattle.std.proofs.Common.{◌≡◌, ◌≤◌, ◌+◌, ◌++◌, ◌∷◌, [], ℕ, suc, List, Bool, true, false, Result, Ok, Err, length, inl, inr, refl, sym, ap, subst, ◌∙◌, append_assoc, arith}
-use Rattle.std.specs.Prelude.{IfOk, reverse}
+use Rattle.std.proofs.Common.{◌≡◌, ◌≤◌, ◌+◌, ◌++◌, ◌∷◌, [], ℕ, suc, List, Bool, true, false, Result, length, inl, inr, refl, sym, ap, subst, ◌∙◌, append_assoc, arith}
+use Rattle.std.specs.Prelude.{reverse}
 use Rattle.std.specs.List.{AllByRecursion}
 use Rattle.std.proofs.Math.Seq.{take-length}
 use Rattle.std.proofs.lemmas.List.{length-append, reverse-append, take-append-le}
 use Rattle.std.proofs.lemmas.List.Elements.{recursion_from_All}
 use Rattle.outside_api.specs.Says.{DiskSays}
-use Rattle.depot_commit.specs.command_core.Outcomes.{IsFormed, IsFormedBy}
-use Rattle.command_words.specs.WellFormed.{IsWellFormed}
+use Rattle.depot_commit.proofs.Laws.{formed_of}
 use Rattle.depot_rows.specs.depot_model.Deeds.{Deed}
 use Rattle.depot_rows.specs.depot_model.Places.{Placed}
-use Rattle.depot_rows.specs.depot_model.declared.command.Command.{Command}
 use Rattle.depot_rows.specs.depot_model.declared.request.Asked.{Asked}
 use Rattle.depot_rows.specs.depot_model.declared.request.Caller.{Caller}
 use Rattle.depot_rows.specs.depot_model.declared.request.Request.{Request}
-use Rattle.depot_rows.specs.depot_model.declared.request.WordFault.{WordFault}
 use Rattle.replica_pull.specs.declared.replica.Replica.{Replica}
 use Rattle.session_loop.specs.Asking.{AreProper, AreWellFormed}
 use Rattle.session_loop.specs.Requests.{AreRequests}
@@ -33,12 +30,6 @@ abbrev pub IsAskedWell : Asked → Type 0
 IsAskedWell asked = AreProper asked.command asked.contents
 
 -- a command that keeps all that words promise keeps what its answer needs
-pub formed_of : (request : Request) → IsProper request → IsFormedBy request
-formed_of request proper = go request.command proper.0
-  where
-    go : (asked : Result Command WordFault) → IfOk asked IsWellFormed → IfOk asked IsFormed
-    go (Ok command) h = (h.form, h.heads)
-    go (Err fault) h = tt
 
 -- a request among those of a party has its number, and is well-formed as its command is
 pub at_place : (may_give : ℕ → Type 0) (party n : ℕ) (caller : Caller) (commands : List Asked) (before : List Request) (request : Request) (behind : List Request)

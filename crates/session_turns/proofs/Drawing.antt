@@ -1,5 +1,5 @@
 -- The turns that numbers draw.
-use Rattle.std.proofs.Common.{◌≡◌, ℕ, zero, suc, ◌+◌, ◌*◌, ◌≤◌, ◌<◌, Bool, true, false, cond, List, [], ◌∷◌, ◌++◌, get_or, length, set, Option, Some, None, refl, sym, ap, subst, ◌∙◌, arith, inl, inr}
+use Rattle.std.proofs.Common.{◌≡◌, ℕ, zero, suc, ◌+◌, ◌*◌, ◌≤◌, ◌<◌, Bool, true, false, cond, List, [], ◌∷◌, ◌++◌, get_or, length, set, Option, Some, None, refl, sym, ap, ◌∙◌, arith, inl, inr}
 use Rattle.std.specs.Prelude.{All, ◌%◌, ◌||◌, filter, slice_get}
 use Rattle.std.specs.List.{AllByRecursion, range_with_len, sum}
 use Rattle.std.proofs.lemmas.Bool.{ltb-true}
@@ -12,17 +12,16 @@ use Rattle.depot_rows.specs.depot_model.Tables.{Need, needs_of}
 use Rattle.depot_rows.specs.depot_model.declared.request.Request.{Request}
 use Rattle.lock_core.specs.Drawing.{has_other, may_go_on}
 use Rattle.lock_machine.specs.Draws.{chosen}
-use Rattle.lock_machine.specs.Machine.{Fault, Finish, Party, State, event, is_enabled, lock_number, may_party, stops}
+use Rattle.lock_machine.specs.Machine.{Fault, Party, State, event, is_enabled, lock_number, may_party, stops}
 use Rattle.lock_machine.specs.Orderly.{Rises}
 use Rattle.lock_machine.specs.Runs.{beginning}
 use Rattle.lock_machine.specs.Turns.{turns_in, turns_left, turns_of, turns_of_left}
-use Rattle.lock_machine.proofs.Ends.{acted_less}
 use Rattle.lock_machine.proofs.Places.{some_is}
 use Rattle.lock_machine.proofs.Rising.{sets_rise}
+use Rattle.lock_machine.proofs.Serving.{fewer as event_less}
 use Rattle.seeded_numbers.specs.Numbers.{next_number, value_of}
 use Rattle.session_loop.specs.Asking.{replica_commands}
 use Rattle.session_loop.specs.declared.reading.ReplicaScript.{ReplicaScript}
-use Rattle.session_turns.proofs.Events.{acted_is}
 use Rattle.session_turns.specs.Drawn.{AreDrawn, Progress, Turn, advanced, counted, ended, going, left_after_turn, others_turned, replica_totals, turned}
 use Rattle.session_turns.specs.Going.{all_left}
 
@@ -82,12 +81,6 @@ there_is s i enabled = go (slice_get s.parties i) refl
 
 pub found_at : (s : State) (i : ℕ) → is_enabled s i ≡ true → (p : Party) × (slice_get s.parties i ≡ Some p)
 found_at s i enabled = there_is s i enabled
-
-event_less : (s : State) (i : ℕ) (how : Finish) → is_enabled s i ≡ true → turns_left needs_of (event needs_of s i how) < turns_left needs_of s
-event_less s i how enabled =
-    let p = there_is s i enabled in
-    let P : State → Type 0 = λ t. turns_left needs_of t < turns_left needs_of s in
-    subst P (sym (acted_is s i p.0 p.1 enabled how)) (acted_less needs_of s i p.0 how p.1 (sym (ap (may_party s.parties) p.1) ∙ enabled))
 
 set_less : (parties : List Party) (i : ℕ) (p q : Party) → slice_get parties i ≡ Some p → turns_of needs_of q ≤ turns_of needs_of p → turns_in needs_of (set parties i q) ≤ turns_in needs_of parties
 set_less [] i p q at less = absurd cc

@@ -1,19 +1,16 @@
 -- An outcome that was found over gathered tables is the request's over the tables after the order.
-use Rattle.std.proofs.Common.{◌≡◌, ◌⊎◌, ◌∙◌, ℕ, Bool, List, [], Option, Some, None, Result, Ok, Err, inl, inr, refl, sym, ap, subst}
-use Rattle.std.specs.Prelude.{IfOk, IfSome}
+use Rattle.std.proofs.Common.{◌≡◌, ◌⊎◌, ◌∙◌, ℕ, Bool, List, [], Option, Some, None, inl, inr, refl, sym, ap, subst}
+use Rattle.std.specs.Prelude.{IfSome}
 use Rattle.std.specs.Sync.Mutex.{mutex_guard_value}
 use Rattle.std.specs.declared.sync.MutexGuard.{MutexGuard}
-use Rattle.depot_commit.specs.command_core.Outcomes.{HasNeeded, IsFormed, IsFormedBy, IsOutcome}
+use Rattle.depot_commit.specs.command_core.Outcomes.{HasNeeded, IsFormedBy, IsOutcome}
 use Rattle.depot_commit.specs.command_core.declared.outcome.Outcome.{Outcome}
 use Rattle.command_needs.specs.Sets.{AreOfWords}
 use Rattle.command_needs.specs.declared.needs.Needs.{Needs}
 use Rattle.depot_rows.specs.db_records.declared.change.Change.{Change}
 use Rattle.depot_rows.specs.depot_model.Deeds.{Deed}
 use Rattle.depot_rows.specs.depot_model.Rules.{IsSound}
-use Rattle.command_words.specs.WellFormed.{IsWellFormed}
-use Rattle.depot_rows.specs.depot_model.declared.command.Command.{Command}
 use Rattle.depot_rows.specs.depot_model.declared.request.Request.{Request}
-use Rattle.depot_rows.specs.depot_model.declared.request.WordFault.{WordFault}
 use Rattle.depot_rows.specs.Standing.{Stand}
 use Rattle.locked_tables.specs.Taken.{end_after, rows_after}
 use Rattle.locked_tables.specs.declared.taken.Taken.{Taken}
@@ -28,18 +25,13 @@ use Rattle.depot_commit.specs.Committing.{IsOutcomeOf}
 use Rattle.depot_commit.specs.Holding.{KeepContents}
 use Rattle.depot_commit.specs.Telling.{IsReplyOf}
 use Rattle.depot_commit.specs.declared.telling.Told.{Told}
+use Rattle.depot_commit.proofs.Laws.{formed_of}
 use Rattle.depot_commit.specs.Storing.{HasStored, stores_end}
 use Rattle.shared_depot.specs.Room.{IsDueAfter, IsStillSo, IsToldAfter, StandsAfter}
 use Rattle.shared_depot.specs.Stored.{images_after, stored_end, stores_of}
 use Rattle.shared_depot.proofs.Sets.{changes_in_set}
 
 -- a command that is well-formed is formed
-formed_of : (request : Request) → IsProper request → IsFormedBy request
-formed_of request proper = go request.command proper.0
-  where
-    go : (asked : Result Command WordFault) → IfOk asked IsWellFormed → IfOk asked IsFormed
-    go (Ok command) h = (h.form, h.heads)
-    go (Err fault) h = tt
 
 module _ {N : Type 0} (rows : AllRows) (end : ℕ) (begins : ℕ → List Deed → Type 0) (order : List Taken) (g : Gathered N) (whole : Bool) (needs : Needs) (request : Request) (outcome : Outcome)
     (gathered : IsGatheredFor rows whole needs g) (set : AreOfWords request.command needs) (proper : (since : ℕ) (start : List Deed) → begins since start → IsProper request)
