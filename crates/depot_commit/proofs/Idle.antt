@@ -78,11 +78,19 @@ module _ {D : Type 0} {disk_says : DiskSays D} {fault was : Bool} (is : fault �
   pub nothing_grows : {journal : Journal D} (opens : Bool) (changes : List Change) {c : Chronicle} → c ≡ grown opens was changes c → HasGroups disk_says journal c → HasGroups disk_says journal (grown opens fault changes c)
   nothing_grows {journal} opens changes {c} same has = subst (λ (b : Bool). HasGroups disk_says journal (grown opens b changes c)) (sym is) (subst (HasGroups disk_says journal) same has)
 
+  pub grows_as : {journal : Journal D} (opens : Bool) {changes same : List Change} → changes ≡ same → (c : Chronicle) → HasGroups disk_says journal (grown opens was changes c) → HasGroups disk_says journal (grown opens fault same c)
+  grows_as {journal} opens {changes} {same} e c has = subst (λ (b : Bool). HasGroups disk_says journal (grown opens b same c)) (sym is) (subst (λ (l : List Change). HasGroups disk_says journal (grown opens was l c)) e has)
+
+  pub ran_as : {stored stores : List (List ℕ)} → stored ≡ stores → {images : Files → Type 0} {from : ℕ} (before : List (List ℕ)) {tables : Tables} {journal : Journal D} {since : ℕ} {start : List Deed} (places : List Placed) (request : Request)
+      → HasRunBeside disk_says images from (before ++ stores) tables journal since start (places ++ placed_by request was ∷ []) → HasRunBeside disk_says images from (before ++ stored) tables journal since start (places ++ placed_by request fault ∷ [])
+  ran_as {stored} {stores} same {images} {from} before {tables} {journal} {since} {start} places request h =
+      let Ran : List (List ℕ) → Bool → Type 0 = λ more b. HasRunBeside disk_says images from (before ++ more) tables journal since start (places ++ placed_by request b ∷ []) in
+      subst (λ (more : List (List ℕ)). Ran more fault) (sym same) (subst (Ran stores) (sym is) h)
+
   pub nothing_ran : {stored : List (List ℕ)} → stored ≡ [] → {images : Files → Type 0} {from : ℕ} {before : List (List ℕ)} {tables : Tables} {journal : Journal D} {since : ℕ} {start : List Deed} (places : List Placed) (request : Request)
       → HasRunBeside disk_says images from before tables journal since start (places ++ placed_by request was ∷ []) → HasRunBeside disk_says images from (before ++ stored) tables journal since start (places ++ placed_by request fault ∷ [])
-  nothing_ran {stored} none {images} {from} {before} {tables} {journal} {since} {start} places request h =
-      let Ran : List (List ℕ) → Bool → Type 0 = λ more b. HasRunBeside disk_says images from (before ++ more) tables journal since start (places ++ placed_by request b ∷ []) in
-      subst (λ (more : List (List ℕ)). Ran more fault) (sym none) (subst (Ran []) (sym is) (beside_same disk_says images from tables journal since start (places ++ placed_by request was ∷ []) before h))
+  nothing_ran none {images} {from} {before} {tables} {journal} {since} {start} places request h =
+      ran_as none before places request (beside_same disk_says images from tables journal since start (places ++ placed_by request was ∷ []) before h)
 
 module _ {told : Told} {landed : Landed} where
   -- as much of the store is used as was

@@ -1,11 +1,14 @@
 -- Contents that are stored, and those that stay.
-use Rattle.std.proofs.Common.{◌≡◌, ℕ, zero, suc, ◌≤◌, ◌<◌, ◌+◌, get_or, Bool, true, false, cond, eqb, List, [], ◌∷◌, ◌++◌, length, take, Result, Ok, Err, inl, inr, refl, sym, ap, subst, ◌∙◌, arith}
+use Rattle.std.proofs.Common.{◌≡◌, ℕ, zero, suc, ◌≤◌, ◌<◌, ◌+◌, ◌^◌, get_or, Bool, true, false, cond, eqb, List, [], ◌∷◌, ◌++◌, length, take, Result, Ok, Err, inl, inr, refl, sym, ap, subst, ◌∙◌, arith}
 use Rattle.std.specs.Prelude.{OnErr, option_and_then}
 use Rattle.std.specs.List.{AllByRecursion, filter}
-use Rattle.std.proofs.lemmas.List.{take_more}
-use Rattle.outside_api.specs.Disk.{Files, NoMore}
+use Rattle.std.proofs.lemmas.List.{take_all, take_more}
+use Rattle.outside_api.specs.Count.{HasCause, HasRisen}
+use Rattle.outside_api.specs.Disk.{Files, NoMore, StillTells}
+use Rattle.outside_api.specs.Says.{DiskSays}
 use Rattle.depot_rows.specs.depot_path.Path.{printed}
-use Rattle.archive_file.specs.Archive.{AllHave, Has, RisesForFaults, end_of}
+use Rattle.archive_file.specs.Archive.{AllHave, Has, RisesForFaults, disk_of, end_of, used_of}
+use Rattle.archive_file.specs.declared.archive.Archive.{Archive}
 use Rattle.archive_file.specs.declared.archive.ContentFault.{ContentFault}
 use Rattle.archive_file.specs.declared.archive.ContentFault.TheVariants.{DiskFault, Memory}
 use Rattle.depot_rows.specs.db_records.Record.{table_of}
@@ -36,7 +39,8 @@ use Rattle.stored_contents.specs.Placed.{HasNoneIfDeleted, HasPlace, HasSpot, If
 use Rattle.depot_commit.specs.Holding.{KeepContents}
 use Rattle.depot_commit.proofs.Contents.{one_row, revision_there}
 use Rattle.depot_commit.proofs.Staying.{row_there}
-use Rattle.depot_commit.specs.Storing.{AllReach, AllStored, AreAt, AreStored, HasStored, IsAt, KeepsBelow, stores_end}
+use Rattle.depot_commit.specs.Placing.{KeepsUsed}
+use Rattle.depot_commit.specs.Storing.{AllReach, AllStored, AllStoredTo, AreAt, AreStored, HasStored, IsAt, KeepsBelow, stores_end}
 
 -- what holds anyway holds on an error
 pub on_err : {T E : Type 0} (result : Result T E) (P : Type 0) → P → OnErr result P
@@ -184,18 +188,60 @@ stored_kept old new place (store ∷ stores) from keeps le all =
     (keeps (record { at = from; length = length store }) store (omega (arith, rest, le)) all.0, stored_kept old new place stores (from + length store) keeps le all.1)
 
 module _ (contents : List (List ℕ)) (i at : ℕ) (x : List ℕ) (lt : i < length contents) (is : x ≡ get_or contents i x) where
-  pub taken_more : take (i + 1) contents ≡ take i contents ++ x ∷ []
+  taken_more : take (i + 1) contents ≡ take i contents ++ x ∷ []
   taken_more = take_more contents i x lt ∙ ap (λ (y : List ℕ). take i contents ++ y ∷ []) (sym is)
 
-  pub end_more : stores_end (take (i + 1) contents) at ≡ stores_end (take i contents) at + length x
+  end_more : stores_end (take (i + 1) contents) at ≡ stores_end (take i contents) at + length x
   end_more = ap (λ (l : List (List ℕ)). stores_end l at) taken_more ∙ end_push (take i contents) at x
 
-  pub stored_more : (old new : Files → Type 0) (end : ℕ) → end ≡ stores_end (take i contents) at → KeepsBelow old new end → AllStored old (take i contents) at
+  stored_more : (old new : Files → Type 0) (end : ℕ) → end ≡ stores_end (take i contents) at → KeepsBelow old new end → AllStored old (take i contents) at
       → AllHave new (record { at = end; length = length x }) x → AllStored new (take (i + 1) contents) at
   stored_more old new end end_is keeps all here =
       let P : List (List ℕ) → Type 0 = λ l. AllStored new l at in
       let Q : ℕ → Type 0 = λ n. AllHave new (record { at = n; length = length x }) x in
       subst P (sym taken_more) (stored_push new (take i contents) at x (stored_kept old new end (take i contents) at keeps (omega (arith, end_is)) all) (subst Q end_is here))
+
+  -- it is at its spot, behind the others
+  pub stored_next : {bytes : List ℕ} → bytes ≡ x → {old new : Files → Type 0} {end : ℕ} {spot : Spot} → AllStoredTo old (take i contents) at end → KeepsBelow old new end → spot ≡ record { at = end; length = length bytes } → AllHave new spot bytes
+      → end_of spot < 2 ^ 63 → AllStoredTo new (take (i + 1) contents) at (end_of spot)
+  stored_next {bytes} same {old} {new} {end} {spot} was keeps spot_is here small =
+      let here_is : spot ≡ record { at = end; length = length x } = spot_is ∙ ap (λ (l : List ℕ). let s : Spot = record { at = end; length = length l } in s) same in
+      record {
+        end_is = ap end_of here_is ∙ (ap (λ (n : ℕ). n + length x) was.end_is ∙ sym end_more);
+        fits = small;
+        stored = stored_more old new end was.end_is keeps was.stored (subst (λ (s : Spot). AllHave new s x) here_is (subst (AllHave new spot) same here));
+        room = λ files seen. (here files seen).within;
+      }
+
+-- all of them are, in images that are no others
+pub stored_in : (contents : List (List ℕ)) (n : ℕ) → length contents ≤ n → {old new : Files → Type 0} {at end : ℕ} → AllStoredTo old (take n contents) at end → NoMore old new → AllStoredTo new contents at end
+stored_in contents n all {old} {new} {at} {end} stored more =
+    let was = subst (λ (l : List (List ℕ)). AllStoredTo old l at end) (take_all n contents all) stored in
+    let end_is = was.end_is in
+    record { end_is = end_is; fits = was.fits; stored = stored_kept old new end contents at (keeps_more old new end more) (omega (arith, end_is)) was.stored; room = λ image left. was.room image (more image left) }
+
+module _ {D : Type 0} {disk_says : DiskSays D} where
+  -- nothing was done
+  pub used_same : {place : ℕ} {archive : Archive D} → KeepsUsed disk_says place archive archive
+  used_same {place} {archive} = record { kept = keeps_same (disk_says.may_leave (disk_of archive)) place; told = λ files read. (files, read); used = refl }
+
+  -- something, and then something behind it
+  pub used_two : {place end : ℕ} {old mid new : Archive D} → place ≤ end → KeepsUsed disk_says place old mid → KeepsUsed disk_says end mid new → KeepsUsed disk_says place old new
+  used_two {place} {end} {old} {mid} {new} le first second = record {
+    kept = λ spot bytes before all. second.kept spot bytes (omega (arith, before, le)) (first.kept spot bytes before all);
+    told = λ files read. let there = first.told files read in second.told there.0 there.1;
+    used = second.used ∙ first.used;
+  }
+
+  -- or a sync
+  pub used_synced : {place : ℕ} {old mid new : Archive D} → KeepsUsed disk_says place old mid → NoMore (disk_says.may_leave (disk_of mid)) (disk_says.may_leave (disk_of new)) → StillTells (disk_says.seen (disk_of mid)) (disk_says.seen (disk_of new))
+      → used_of new ≡ used_of mid → KeepsUsed disk_says place old new
+  used_synced {place} {old} {mid} {new} first more told used =
+      used_two (omega arith) first (record { kept = keeps_more (disk_says.may_leave (disk_of mid)) (disk_says.may_leave (disk_of new)) place more; told = told; used = used })
+
+-- the cause of a fault that is passed on, after calls that didn't fail
+pub cause_passed : {T E : Type 0} (passed : Result T E) {before mid now : ℕ} → mid ≡ before → mid ≤ now → HasRisen mid now → HasCause before now passed
+cause_passed passed {before} {mid} {now} same more risen = record { never_falls = omega (arith, same, more); risen = on_err passed (HasRisen before now) (omega (arith, same, risen)) }
 
 -- ---- images with contents that were stored
 

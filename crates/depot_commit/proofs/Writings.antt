@@ -1,5 +1,5 @@
 -- What a place writes to the journal's disk.
-use Rattle.std.proofs.Common.{◌≡◌, ◌⊎◌, inl, inr, ℕ, ◌+◌, ◌<◌, true, false, List, refl, sym, ap, subst, ◌∙◌}
+use Rattle.std.proofs.Common.{◌≡◌, ◌⊎◌, inl, inr, ℕ, ◌+◌, ◌<◌, Bool, true, false, List, refl, sym, ap, subst, ◌∙◌}
 use Rattle.outside_api.specs.Says.{DiskSays}
 use Rattle.depot_rows.specs.db_records.declared.change.Change.{Change}
 use Rattle.checkpoint_file.specs.Checkpoint.{IsCheckpointOf, puts_of}
@@ -11,7 +11,8 @@ use Rattle.disk_journal.specs.declared.journal.Journal.{Journal}
 use Rattle.journal_groups.specs.Groups.{AreRecords, IsGroup, group_text}
 use Rattle.recovery.specs.Holding.{HasAllRows}
 use Rattle.depot_rows.specs.table_changes.Changed.{AllFitIn, AllRows, changed_by}
-use Rattle.depot_commit.specs.Writing.{CanWrite, IsWritingOf, StandsBy}
+use Rattle.depot_commit.specs.Growing.{HasWritten}
+use Rattle.depot_commit.specs.Writing.{CanWrite, IsWritingOf, StandsBy, left_by}
 use Rattle.depot_commit.specs.declared.writing.Writing.{Writing}
 use Rattle.depot_commit.specs.declared.writing.Writing.TheVariants.{Group, Generation}
 use Rattle.recovery.proofs.OneGroup.{group_added}
@@ -55,3 +56,7 @@ module _ (rows now : AllRows) (number generation : ℕ) (changes : List Change) 
         let Has : AllRows → Type 0 = HasAllRows (with_generation was text) in
         subst Has rows_are (next_rows was now text (subst Of generation_is (is texts)));
   }
+
+-- what was written, by what it is
+pub wrote : {D : Type 0} {disk_says : DiskSays D} {was : Committed} {writing it : Writing} {failed : Bool} {old new : Journal D} → writing ≡ it → HasWritten disk_says was (left_by it) failed old new → HasWritten disk_says was (left_by writing) failed old new
+wrote {D} {disk_says} {was} {writing} {it} {failed} {old} {new} is has = subst (λ (w : Writing). HasWritten disk_says was (left_by w) failed old new) (sym is) has

@@ -27,6 +27,12 @@ HasRunBeside disk_says images from stores = HasRunOver disk_says (HasStored imag
 abbrev pub EndsAt : {D : Type 0} → DiskSays D → Archive D → ℕ → Type 0
 EndsAt disk_says archive used = (used_of archive ≡ used) × AllReach (disk_says.may_leave (disk_of archive)) used
 
+-- An archive keeps what ends at or before a place, its disk tells what it told, and as much of it counts as used as did.
+pub record KeepsUsed {D : Type 0} (disk_says : DiskSays D) (place : ℕ) (old new : Archive D) : Type 0 where
+  pub kept : KeepsBelow (disk_says.may_leave (disk_of old)) (disk_says.may_leave (disk_of new)) place
+  pub told : StillTells (disk_says.seen (disk_of old)) (disk_says.seen (disk_of new))
+  pub used : used_of new ≡ used_of old
+
 -- Contents were stored behind what was used of an archive, and count as used; what was there is kept.
 pub record StoresBehind {D : Type 0} (disk_says : DiskSays D) (stored : List (List ℕ)) (old new : Archive D) : Type 0 where
   pub used : used_of new ≡ stores_end stored (used_of old)

@@ -1,5 +1,5 @@
 -- Contents that are stored in the archive, one after another from a place on, and contents that are read there or given. This project's own choice.
-use Rattle.std.specs.Prelude.{◌≡◌, ◌≤◌, ◌+◌, ℕ, List, [], ◌∷◌, length}
+use Rattle.std.specs.Prelude.{◌≡◌, ◌≤◌, ◌<◌, ◌+◌, ◌^◌, ℕ, List, [], ◌∷◌, length}
 use Rattle.outside_api.specs.Disk.{Files}
 use Rattle.depot_rows.specs.db_records.declared.change.Spot.{Spot}
 use Rattle.archive_file.specs.Archive.{AllHave, Has, end_of}
@@ -23,6 +23,13 @@ AllStored images (store ∷ stores) from = AllHave images (record { at = from; l
 abbrev pub stores_end : List (List ℕ) → ℕ → ℕ
 stores_end [] from = from
 stores_end (store ∷ stores) from = stores_end stores (from + length store)
+
+-- each image has these contents one after another from a place on, and reaches as far as the place where they end
+pub record AllStoredTo (images : Files → Type 0) (stores : List (List ℕ)) (from end : ℕ) : Type 0 where
+  pub end_is : end ≡ stores_end stores from
+  pub fits : end < 2 ^ 63
+  pub stored : AllStored images stores from
+  pub room : AllReach images end
 
 -- a file has these contents one after another from a place on
 abbrev pub AreStored : List ℕ → List (List ℕ) → ℕ → Type 0

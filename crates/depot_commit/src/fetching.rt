@@ -27,7 +27,8 @@ pub fn fetch_texts<D: Disk>(
     buffer: &mut [u8],
 ) -> Result<Fetched, DiskFault>
     requires room { 0 < length buffer.old }
-    ensures answers { (texts : List (List ℕ)) → HasTexts D.says journal.old texts → IfOk result (λ fetched. Answers texts generation at fetched buffer.new) }
+    ensures answers { (texts : List (List ℕ)) → HasTexts D.says journal.old texts →
+        IfOk result (λ fetched. Answers texts generation at fetched buffer.new) }
     ensures fits { IfOk result (λ fetched. Fits fetched (length buffer.old)) }
     ensures fetched { IsFetched D.says journal.old journal.new }
     ensures only { OnOk result (D.says.faults (disk_of journal.new) ≡ D.says.faults (disk_of journal.old)) }
@@ -44,7 +45,8 @@ pub fn read_contents<D: Disk>(
     archive: &mut Archive<D>,
     places: &[RowContent],
 ) -> Result<Sequence<Text>, ContentFault>
-    ensures contents { (files : Files) (contents : List (List ℕ)) → D.says.seen (archive_disk_of archive.old) files → AreAt (files 0) places.now contents → IfOk result (λ texts. texts ≡ contents) }
+    ensures contents { (files : Files) (contents : List (List ℕ)) → D.says.seen (archive_disk_of archive.old) files →
+        AreAt (files 0) places.now contents → IfOk result (λ texts. texts ≡ contents) }
     ensures read { IsRead D.says archive.old archive.new }
     ensures no_call { places.now ≡ [] → archive.new ≡ archive.old }
     ensures only { RisesForFaults (D.says.faults (archive_disk_of archive.old)) (D.says.faults (archive_disk_of archive.new)) result }

@@ -43,35 +43,6 @@ pub struct Landed {
     pub lost: bool,
 }
 
-impl Landed {
-    /// What the command is answered.
-    pub fn into_answer(self) -> Answer
-        ensures { result ≡ self.answer }
-    {
-        let Landed {
-            answer,
-            changes,
-            stored,
-            lost: _,
-        } = self;
-        drop(changes);
-        drop(stored);
-        answer
-    }
-}
-
-/// The place of a request, where no disk fails.
-fn place_of(request: &Request) -> Place
-    ensures { result ≡ place_by request.now false }
-{
-    Place {
-        party: request.party,
-        number: request.number,
-        moment: request.moment,
-        fault: false,
-    }
-}
-
 /// Whether a request opens a generation, where it isn't refused.
 fn opens(request: &Request) -> bool
     ensures { result ≡ opens_generation request.now }
@@ -85,8 +56,10 @@ fn answer_of(request: &Request, reply: Text, of_fault: Text, fault: bool) -> Ans
     ensures told { IsToldAt (place_by request.now false) reply of_fault result }
 {
     let place = Place {
+        party: request.party,
+        number: request.number,
+        moment: request.moment,
         fault,
-        ..place_of(request)
     };
     if fault {
         Answer {
@@ -172,21 +145,27 @@ pub fn place<D: Disk, S: Store, I: Imaging>(
     ensures used { S.ends_at store.new tables.new.archive_end }
     ensures nothing { OnErr result ((tables.new ≡ tables.old) × (journal.new ≡ journal.old) × (store.new ≡ store.old)) }
     ensures landed { IfOk result (λ landed. HasLanded S.stores told landed tables.old.archive_end tables.new.archive_end store.old store.new) }
-    // Where the tables and the journal have run places beside an archive in which contents were stored since a moment, they have run one more after it,
-    // beside the archive in which these contents were stored too.
+    // Where the tables and the journal have run places beside an archive in which contents were stored since a moment,
+    // they have run one more after it, beside the archive in which these contents were stored too.
     ensures ran { (from : ℕ) (before : List (List ℕ)) (since : ℕ) (start : List Deed) (places : List Placed) (outcome : Outcome) →
-        HasRunBeside D.says I.images from before tables.old journal.old since start places → tables.old.archive_end ≡ stores_end before from → IsProper request.now →
-        IsOutcomeOf (rows_of tables.old) tables.old.archive_end request.now outcome → IsTold outcome request.now.number told →
+        HasRunBeside D.says I.images from before tables.old journal.old since start places →
+        tables.old.archive_end ≡ stores_end before from → IsProper request.now →
+        IsOutcomeOf (rows_of tables.old) tables.old.archive_end request.now outcome →
+        IsTold outcome request.now.number told →
         IfSome changed (λ given. rows_of given ≡ changed_by (rows_of tables.old) outcome.changes) →
         IfOk result (λ landed. HasRunBeside D.says I.images from (before ++ landed.stored) tables.new journal.new since start (with_place places request.now landed.answer)) }
-    ensures answers { (start : List Deed) (places : List Placed) (outcome : Outcome) → IsTold outcome request.now.number told → IsReplyOf (taken step start places) request.now told →
+    ensures answers { (start : List Deed) (places : List Placed) (outcome : Outcome) →
+        IsTold outcome request.now.number told → IsReplyOf (taken step start places) request.now told →
         IfOk result (λ landed. Answers start places request.now landed.answer) }
-    ensures rows { (outcome : Outcome) → IsTold outcome request.now.number told → IfSome changed (λ given. rows_of given ≡ changed_by (rows_of tables.old) outcome.changes) →
+    ensures rows { (outcome : Outcome) → IsTold outcome request.now.number told →
+        IfSome changed (λ given. rows_of given ≡ changed_by (rows_of tables.old) outcome.changes) →
         IfOk result (λ landed. AreRowsAfter (rows_of tables.old) outcome.changes landed.answer.place.fault (rows_of tables.new)) }
-    ensures grows { (d : List Deed) (c : Chronicle) (outcome : Outcome) → Stand (rows_of tables.old) d → IsProper request.now → IsOutcomeOf (rows_of tables.old) tables.old.archive_end request.now outcome →
+    ensures grows { (d : List Deed) (c : Chronicle) (outcome : Outcome) → Stand (rows_of tables.old) d →
+        IsProper request.now → IsOutcomeOf (rows_of tables.old) tables.old.archive_end request.now outcome →
         IsTold outcome request.now.number told → HasGroups D.says journal.old c →
         IfOk result (λ landed. HasGroups D.says journal.new (grown (opens_generation request.now) landed.answer.place.fault outcome.changes c)) }
-    ensures no_call { told.changes ≡ [] → (tables.new ≡ tables.old) × (journal.new ≡ journal.old) × (store.new ≡ store.old) }
+    ensures no_call { told.changes ≡ [] →
+        (tables.new ≡ tables.old) × (journal.new ≡ journal.old) × (store.new ≡ store.old) }
     ensures never_falls { D.says.faults (disk_of journal.old) ≤ D.says.faults (disk_of journal.new) }
     ensures never_falls_contents { S.faults store.old ≤ S.faults store.new }
     ensures counted { IfOk result (λ landed. AreCounted told landed (D.says.faults (disk_of journal.old)) (D.says.faults (disk_of journal.new)) (S.faults store.old) (S.faults store.new)) }

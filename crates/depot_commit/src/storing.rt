@@ -3,8 +3,9 @@
 ghost use Rattle.std.specs.Prelude.{◌≡◌, ◌↔◌, ◌+◌, ◌≤◌, ◌<◌, ◌^◌, ℕ, List, [], length, All, IsTrue, IfOk, OnOk};
 ghost use Rattle.archive_file.specs.Archive.{HasMemoryOr, RisesForFaults, disk_of, used_of};
 ghost use Rattle.outside_api.specs.Count.{HasCause};
-ghost use Rattle.outside_api.specs.Disk.{Files, NoMore, Same, StillTells};
-ghost use Rattle.depot_commit.specs.Storing.{AllReach, AllStored, AreAt, EndsBy, IsAt, KeepsBelow, stores_end};
+ghost use Rattle.outside_api.specs.Disk.{Files, NoMore, Same};
+ghost use Rattle.depot_commit.specs.Placing.{KeepsUsed};
+ghost use Rattle.depot_commit.specs.Storing.{AllReach, AllStoredTo, AreAt, EndsBy, IsAt};
 
 use archive_file::{Archive, ContentFault};
 use depot_rows::paths::{Sequence, Text};
@@ -23,13 +24,8 @@ pub(crate) fn store_all<D: Disk>(
     requires above { used_of archive.old ≤ at }
     requires fits { at < 2 ^ 63 }
     requires room { AllReach (D.says.may_leave (disk_of archive.old)) at }
-    ensures end { IfOk result (λ end. end ≡ stores_end contents.now at) }
-    ensures fits { IfOk result (λ end. end < 2 ^ 63) }
-    ensures stored { IfOk result (λ end. AllStored (D.says.may_leave (disk_of archive.new)) contents.now at) }
-    ensures room { IfOk result (λ end. AllReach (D.says.may_leave (disk_of archive.new)) end) }
-    ensures kept { KeepsBelow (D.says.may_leave (disk_of archive.old)) (D.says.may_leave (disk_of archive.new)) at }
-    ensures told { StillTells (D.says.seen (disk_of archive.old)) (D.says.seen (disk_of archive.new)) }
-    ensures used { used_of archive.new ≡ used_of archive.old }
+    ensures stored { IfOk result (λ end. AllStoredTo (D.says.may_leave (disk_of archive.new)) contents.now at end) }
+    ensures kept { KeepsUsed D.says at archive.old archive.new }
     ensures no_call { contents.now ≡ [] → archive.new ≡ archive.old }
     ensures at_most { D.says.calls (disk_of archive.new) ≤ D.says.calls (disk_of archive.old) + length contents.now + 1 }
     ensures only { OnOk result (D.says.faults (disk_of archive.new) ≡ D.says.faults (disk_of archive.old)) }
@@ -76,7 +72,8 @@ fn read_one<D: Disk>(
     place: &RowContent,
 ) -> Result<Text, ContentFault>
     requires { EndsBy (used_of archive.old) place.now }
-    ensures content { (files : Files) (content : List ℕ) → D.says.seen (disk_of archive.old) files → IsAt (files 0) place.now content → IfOk result (λ text. text ≡ content) }
+    ensures content { (files : Files) (content : List ℕ) → D.says.seen (disk_of archive.old) files →
+        IsAt (files 0) place.now content → IfOk result (λ text. text ≡ content) }
     ensures same { Same (D.says.seen (disk_of archive.old)) (D.says.seen (disk_of archive.new)) }
     ensures crash { NoMore (D.says.may_leave (disk_of archive.old)) (D.says.may_leave (disk_of archive.new)) }
     ensures used { used_of archive.new ≡ used_of archive.old }
@@ -100,7 +97,8 @@ pub(crate) fn read_all<D: Disk>(
     places: &[RowContent],
 ) -> Result<Sequence<Text>, ContentFault>
     requires { All (EndsBy (used_of archive.old)) places.now }
-    ensures contents { (files : Files) (contents : List (List ℕ)) → D.says.seen (disk_of archive.old) files → AreAt (files 0) places.now contents → IfOk result (λ texts. texts ≡ contents) }
+    ensures contents { (files : Files) (contents : List (List ℕ)) → D.says.seen (disk_of archive.old) files →
+        AreAt (files 0) places.now contents → IfOk result (λ texts. texts ≡ contents) }
     ensures same { Same (D.says.seen (disk_of archive.old)) (D.says.seen (disk_of archive.new)) }
     ensures crash { NoMore (D.says.may_leave (disk_of archive.old)) (D.says.may_leave (disk_of archive.new)) }
     ensures used { used_of archive.new ≡ used_of archive.old }

@@ -77,7 +77,8 @@ fn fault_reply(alloc: Global, number: u32) -> Result<Text, AllocError>
 /// changed, and the contents that the reply reads lie within what is used of the archive, as those of
 /// the tables' rows do.
 fn is_ready(outcome: &Outcome, used: u64) -> bool
-    ensures { result ≡ true → All (λ change. IsTrue (is_counted change.row)) outcome.now.changes × All (EndsBy used) outcome.now.reads }
+    ensures { result ≡ true →
+        All (λ change. IsTrue (is_counted change.row)) outcome.now.changes × All (EndsBy used) outcome.now.reads }
 {
     are_within(outcome.reads.as_slice(), used) && are_counted(outcome.changes.as_slice())
 }
@@ -95,7 +96,8 @@ fn told_with(
     requires counted { All (λ change. IsTrue (is_counted change.row)) outcome.changes }
     ensures told { IfOk result (IsTold outcome number) }
     ensures read { IfOk result (λ told. told.unread ≡ false) }
-    ensures reply { (rows : List Row) → outcome.reply.rows ≡ map waiting rows → contents ≡ contents_of rows → IfOk result (λ told. told.reply ≡ printed rows number) }
+    ensures reply { (rows : List Row) → outcome.reply.rows ≡ map waiting rows → contents ≡ contents_of rows →
+        IfOk result (λ told. told.reply ≡ printed rows number) }
 {
     let Outcome {
         reply,
@@ -148,7 +150,8 @@ pub fn tell(alloc: Global, outcome: Outcome, number: u32) -> Result<Told, AllocE
     requires { outcome.reads ≡ [] }
     ensures told { IfOk result (IsTold outcome number) }
     ensures read { IfOk result (λ told. told.unread ≡ false) }
-    ensures reply { (rows : AllRows) (from : ℕ) (d : List Deed) (request : Request) → request.number ≡ number → IsOutcome rows from d request outcome → IfOk result (IsReplyOf d request) }
+    ensures reply { (rows : AllRows) (from : ℕ) (d : List Deed) (request : Request) → request.number ≡ number →
+        IsOutcome rows from d request outcome → IfOk result (IsReplyOf d request) }
 {
     if !are_counted(outcome.changes.as_slice()) {
         drop(outcome);
@@ -164,9 +167,9 @@ pub fn tell(alloc: Global, outcome: Outcome, number: u32) -> Result<Told, AllocE
     }
 }
 
-/// Reads the contents that the reply of an outcome waits for, where they aren't given, and prints it. The one error is want of
-/// memory; it also stands for an outcome that changes a row with a number that no text says, and for
-/// one that reads behind what is used of the archive.
+/// Reads the contents that the reply of an outcome waits for, where they aren't given, and prints it. The one error is
+/// want of memory; it also stands for an outcome that changes a row with a number that no text says, and for one that
+/// reads behind what is used of the archive.
 pub fn tell_reading<D: Disk>(
     alloc: Global,
     archive: &mut Archive<D>,
@@ -175,7 +178,8 @@ pub fn tell_reading<D: Disk>(
 ) -> Result<Told, AllocError>
     ensures told { IfOk result (IsTold outcome number) }
     // The reply is the request's after each depot whose contents stand in what the archive's disk reads.
-    ensures reply { (files : Files) (rows : AllRows) (from : ℕ) (d : List Deed) (request : Request) → D.says.seen (disk_of archive.old) files → request.number ≡ number →
+    ensures reply { (files : Files) (rows : AllRows) (from : ℕ) (d : List Deed) (request : Request) →
+        D.says.seen (disk_of archive.old) files → request.number ≡ number →
         HasItsContents rows d files → IsOutcome rows from d request outcome → IfOk result (IsReplyOf d request) }
     ensures same { Same (D.says.seen (disk_of archive.old)) (D.says.seen (disk_of archive.new)) }
     ensures crash { NoMore (D.says.may_leave (disk_of archive.old)) (D.says.may_leave (disk_of archive.new)) }
@@ -183,9 +187,11 @@ pub fn tell_reading<D: Disk>(
     ensures no_call { outcome.reads ≡ [] → archive.new ≡ archive.old }
     ensures never_falls { D.says.faults (disk_of archive.old) ≤ D.says.faults (disk_of archive.new) }
     // Where all contents were read, or memory was wanting, no call of the disk failed.
-    ensures only { IfOk result (λ told. told.unread ≡ false → D.says.faults (disk_of archive.new) ≡ D.says.faults (disk_of archive.old)) }
+    ensures only { IfOk result (λ told. told.unread ≡ false →
+        D.says.faults (disk_of archive.new) ≡ D.says.faults (disk_of archive.old)) }
     ensures no_memory { OnErr result (D.says.faults (disk_of archive.new) ≡ D.says.faults (disk_of archive.old)) }
-    ensures cause { IfOk result (λ told. told.unread ≡ true → HasRisen (D.says.faults (disk_of archive.old)) (D.says.faults (disk_of archive.new))) }
+    ensures cause { IfOk result (λ told. told.unread ≡ true →
+        HasRisen (D.says.faults (disk_of archive.old)) (D.says.faults (disk_of archive.new))) }
 {
     if !is_ready(&outcome, archive.used()) {
         drop(outcome);

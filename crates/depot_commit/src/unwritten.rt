@@ -16,15 +16,17 @@ use crate::telling::Told;
 use depot_rows::model::{Answer, Request};
 use sound_requests::requests_are_typed;
 
-/// Gives its place to a command that changes nothing, or for whose reply a content couldn't be read; then the place is that of a fault. No call of a disk is
-/// made, and neither the tables nor the journal are needed.
+/// Gives its place to a command that changes nothing, or for whose reply a content couldn't be read; then the place is
+/// that of a fault. No call of a disk is made, and neither the tables nor the journal are needed.
 pub fn place_unwritten(request: &Request, told: Told) -> Answer
     requires unwritten { IsUnwritten told }
     ensures fault { result.place.fault ≡ told.unread }
-    ensures answers { (start : List Deed) (places : List Placed) (outcome : Outcome) → IsTold outcome request.now.number told → IsReplyOf (taken step start places) request.now told →
+    ensures answers { (start : List Deed) (places : List Placed) (outcome : Outcome) →
+        IsTold outcome request.now.number told → IsReplyOf (taken step start places) request.now told →
         Answers start places request.now result }
     // Where all could be read the command leaves the rows over which its outcome was found.
-    ensures leaves { (rows : AllRows) (from : ℕ) (outcome : Outcome) → IsProper request.now → IsOutcomeOf rows from request.now outcome → IsTold outcome request.now.number told →
+    ensures leaves { (rows : AllRows) (from : ℕ) (outcome : Outcome) → IsProper request.now →
+        IsOutcomeOf rows from request.now outcome → IsTold outcome request.now.number told →
         told.unread ≡ false → LeavesRows rows request.now }
 {
     requests_are_typed(request);

@@ -5,7 +5,7 @@ ghost use Rattle.disk_journal.specs.Images.{Committed};
 ghost use Rattle.disk_journal.specs.Stands.{Stands, disk_of, generation_of_journal, next_number, nothing};
 ghost use Rattle.journal_groups.specs.Groups.{AreRecords};
 ghost use Rattle.outside_api.specs.Count.{HasRisen};
-ghost use Rattle.depot_rows.specs.table_changes.Changed.{AllFitIn, AllRows, changed_by, rows_of};
+ghost use Rattle.depot_rows.specs.table_changes.Changed.{AllFitIn, changed_by, rows_of};
 ghost use Rattle.depot_commit.specs.Growing.{HasWritten, IsWritten};
 ghost use Rattle.depot_commit.specs.Writing.{CanWrite, IsWritingOf, left_by};
 
@@ -30,33 +30,6 @@ pub(crate) enum Writing {
     Generation(Text),
 }
 
-/// What the changes of a place write, after which the tables are these: their group, or, where it opens a
-/// generation, the checkpoint of the rows after them. Behind the last generation it answers as if memory
-/// were wanting.
-fn prepare<D: Disk>(
-    alloc: Global,
-    journal: &Journal<D>,
-    changed: &Tables,
-    changes: &[Change],
-    opens: bool,
-) -> Result<Writing, AllocError>
-    ensures can { IfOk result (CanWrite journal.now) }
-    ensures writes { (rows : AllRows) → AllFitIn rows changes.now → rows_of changed.now ≡ changed_by rows changes.now → AreRecords changes.now → IfOk result (λ writing.
-        IsWritingOf rows (rows_of changed.now) (next_number journal.now) (generation_of_journal journal.now) opens (left_by writing) changes.now) }
-    ensures written { AreRecords changes.now → IfOk result (λ writing. IsWritten (next_number journal.now) opens (left_by writing) changes.now) }
-{
-    if !opens {
-        let prepared = journal.prepare(alloc, changes)?;
-        return Ok(Writing::Group(prepared));
-    }
-    let generation = journal.generation();
-    if generation >= LAST {
-        return Err(AllocError);
-    }
-    let text = print_generation(alloc, changed, generation + 1)?;
-    Ok(Writing::Generation(text))
-}
-
 /// The tables after changes: those given, where they are, and else made of the tables.
 fn tables_after(
     alloc: Global,
@@ -65,7 +38,8 @@ fn tables_after(
     changes: &[Change],
 ) -> Result<Tables, AllocError>
     requires { changed ≡ None → AllFitIn (rows_of tables.now) changes.now }
-    ensures { IfSome changed (λ given. rows_of given ≡ changed_by (rows_of tables.now) changes.now) → IfOk result (λ after. rows_of after ≡ changed_by (rows_of tables.now) changes.now) }
+    ensures { IfSome changed (λ given. rows_of given ≡ changed_by (rows_of tables.now) changes.now) →
+        IfOk result (λ after. rows_of after ≡ changed_by (rows_of tables.now) changes.now) }
 {
     match changed {
         Some(given) => Ok(given),
@@ -82,7 +56,8 @@ pub(crate) struct Following {
     pub(crate) writing: Writing,
 }
 
-/// Makes what follows changes. The tables after them may be given.
+/// Makes what follows changes: the tables after them, which may be given, and their group, or, where they open a
+/// generation, the checkpoint of the rows after them. Behind the last generation it answers as if memory were wanting.
 pub(crate) fn follow<D: Disk>(
     alloc: Global,
     tables: &Tables,
@@ -93,13 +68,26 @@ pub(crate) fn follow<D: Disk>(
 ) -> Result<Following, AllocError>
     requires fit { changed ≡ None → AllFitIn (rows_of tables.now) changes.now }
     ensures can { IfOk result (λ f. CanWrite journal.now f.writing) }
-    ensures writes { AllFitIn (rows_of tables.now) changes.now → AreRecords changes.now → IfSome changed (λ given. rows_of given ≡ changed_by (rows_of tables.now) changes.now) → IfOk result (λ f.
+    ensures writes { AllFitIn (rows_of tables.now) changes.now → AreRecords changes.now →
+        IfSome changed (λ given. rows_of given ≡ changed_by (rows_of tables.now) changes.now) → IfOk result (λ f.
         IsWritingOf (rows_of tables.now) (rows_of f.changed) (next_number journal.now) (generation_of_journal journal.now) opens (left_by f.writing) changes.now) }
-    ensures written { AreRecords changes.now → IfOk result (λ f. IsWritten (next_number journal.now) opens (left_by f.writing) changes.now) }
-    ensures after { IfSome changed (λ given. rows_of given ≡ changed_by (rows_of tables.now) changes.now) → IfOk result (λ f. rows_of f.changed ≡ changed_by (rows_of tables.now) changes.now) }
+    ensures written { AreRecords changes.now →
+        IfOk result (λ f. IsWritten (next_number journal.now) opens (left_by f.writing) changes.now) }
+    ensures after { IfSome changed (λ given. rows_of given ≡ changed_by (rows_of tables.now) changes.now) →
+        IfOk result (λ f. rows_of f.changed ≡ changed_by (rows_of tables.now) changes.now) }
 {
     let changed = tables_after(alloc, tables, changed, changes)?;
-    let writing = prepare(alloc, journal, &changed, changes, opens)?;
+    if !opens {
+        let prepared = journal.prepare(alloc, changes)?;
+        let writing = Writing::Group(prepared);
+        return Ok(Following { changed, writing });
+    }
+    let generation = journal.generation();
+    if generation >= LAST {
+        return Err(AllocError);
+    }
+    let text = print_generation(alloc, &changed, generation + 1)?;
+    let writing = Writing::Generation(text);
     Ok(Following { changed, writing })
 }
 
@@ -115,10 +103,12 @@ pub(crate) fn commit<D: Disk>(
     requires can { CanWrite journal.old writing }
     ensures landed { result ≡ false → tables.new ≡ changed }
     ensures failed { result ≡ true → tables.new ≡ tables.old }
-    ensures written { (was : Committed) → Stands D.says journal.old was nothing → HasWritten D.says was (left_by writing) result journal.old journal.new }
+    ensures written { (was : Committed) → Stands D.says journal.old was nothing →
+        HasWritten D.says was (left_by writing) result journal.old journal.new }
     ensures never_falls { D.says.faults (disk_of journal.old) ≤ D.says.faults (disk_of journal.new) }
     ensures only { result ≡ false → D.says.faults (disk_of journal.new) ≡ D.says.faults (disk_of journal.old) }
-    ensures cause { result ≡ true → HasRisen (D.says.faults (disk_of journal.old)) (D.says.faults (disk_of journal.new)) }
+    ensures cause { result ≡ true →
+        HasRisen (D.says.faults (disk_of journal.old)) (D.says.faults (disk_of journal.new)) }
 {
     match writing {
         Writing::Group(prepared) => match journal.commit(prepared) {

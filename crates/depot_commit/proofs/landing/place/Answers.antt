@@ -12,16 +12,15 @@ use Rattle.journal_groups.specs.Groups.{AreRecords}
 use Rattle.session_loop.specs.Taking.{placed_by}
 use Rattle.stored_contents.specs.Placed.{StandAfter}
 use Rattle.depot_commit.specs.Committing.{AreRowsAfter}
-use Rattle.depot_commit.specs.Growing.{HasGroups, IsWritten, grown}
+use Rattle.depot_commit.specs.Growing.{HasGroups, IsWritten}
 use Rattle.depot_commit.specs.Opening.{opens_generation}
-use Rattle.depot_commit.specs.Placing.{HasRunBeside}
 use Rattle.depot_commit.specs.Storing.{stores_end}
 use Rattle.depot_commit.specs.Writing.{IsWritingOf, left_by}
 use Rattle.depot_commit.proofs.Finished.{over_unstored, over_unwritten, over_written, standing}
 use Rattle.depot_commit.proofs.Growing.{grown_fault, groups_kept, groups_written}
 use Rattle.depot_commit.proofs.Outcomes.{answers, told_changes, told_fits, told_placed}
 use Rattle.depot_commit.proofs.Beside.{beside_more, rows_so}
-use Rattle.depot_commit.proofs.Idle.{counted_fault, grown_unwritten, landed_nothing, none_kept, nothing_grows, nothing_ran, ran_unwritten, rows_unwritten}
+use Rattle.depot_commit.proofs.Idle.{counted_fault, grown_unwritten, grows_as, landed_nothing, none_kept, nothing_grows, nothing_ran, ran_as, ran_unwritten, rows_unwritten}
 use Rattle.depot_commit.proofs.Writings.{can_write, same_generation}
 use Rattle.depot_commit.proofs.landing.place.Goals as goal
 
@@ -66,8 +65,7 @@ returns-then-is_unwritten g c =
       answers = λ start places outcome t reply. answers (λ whole. reply (sym fault ∙ whole)) t.of_fault landing.told;
       rows = λ outcome t given. subst (λ (changes : List Change). AreRowsAfter rows changes c.land_nothing.result.answer.place.fault rows) t.changes
           (subst (λ (b : Bool). AreRowsAfter rows told.changes b rows) (sym fault) (rows_unwritten told unwritten rows));
-      grows = λ d all outcome stand proper is t has. subst (λ (changes : List Change). HasGroups says c.args.journal.now (grown opens c.land_nothing.result.answer.place.fault changes all)) t.changes
-          (nothing_grows fault opens told.changes (grown_unwritten told unwritten opens all) has);
+      grows = λ d all outcome stand proper is t has. grows_as fault opens t.changes all (subst (HasGroups says c.args.journal.now) (grown_unwritten told unwritten opens all) has);
       no_call = λ none. (refl, refl, refl);
       never_falls = omega arith;
       never_falls_contents = omega arith;
@@ -186,10 +184,7 @@ returns g c =
       nothing = tt;
       landed = record {
         stored = subst (λ (l : List (List ℕ)). g.S.Store.stores l c.args.store.now c.store.new.self) stored store.stored;
-        end = c.set_archive_end.ensures.end
-            ∙ (store.end
-            ∙ (ap (stores_end c.as_slice-2.result.now) c.archive_end.ensures.end
-            ∙ ap (λ (l : List (List ℕ)). stores_end l tables.archive_end) stored));
+        end = c.set_archive_end.ensures.end ∙ (store.end ∙ (λ i. stores_end (stored i) (c.archive_end.ensures.end i)));
         none = λ none. landing.stored ∙ none;
         changes = landing.changes ∙ ap (λ (fault : Bool). if fault then [] else told.changes) (sym landing.fault);
       };
@@ -201,17 +196,13 @@ returns g c =
           let current = taken step start places in
           let placed = subst (λ (n : ℕ). StandAfter rows n current (after current (step current request).deeds) told.stores told.changes) same (told_placed h.stand is t) in
           let over = over_written h (settle.any_moment h.was h.doubt h.stands) request (settled h.was h.doubt h.stands) told.stores told.changes some writes (written made.records) made placed settle.number commit.written done kept in
-          let more = beside_more g.D.Disk.says g.I.Imaging.images from now c.commit-failed.new.journal since start (places ++ placed_by request failed ∷ []) before told.stores over in
-          let Ran : List (List ℕ) → Bool → Type 0 = λ l fault. HasRunBeside g.D.Disk.says g.I.Imaging.images from (before ++ l) now c.commit-failed.new.journal since start (places ++ placed_by request fault ∷ []) in
-          subst (λ (l : List (List ℕ)). Ran l c.land_stored.result.answer.place.fault) (sym landing.stored) (subst (Ran told.stores) (sym landing.fault) more);
+          ran_as landing.fault landing.stored before places request (beside_more g.D.Disk.says g.I.Imaging.images from now c.commit-failed.new.journal since start (places ++ placed_by request failed ∷ []) before told.stores over);
       answers = λ start places outcome t reply. answers (λ kept. reply whole) t.of_fault landing.told;
       rows = λ outcome t given.
           let made = subst (λ (l : List Change). changed ≡ changed_by rows l) (slice ∙ t.changes) (following.after (subst Given (sym (slice ∙ t.changes)) given)) in
           rows_so rows changed (rows_of now) outcome.changes c.land_stored.result.answer.place.fault made (λ e. done (sym landing.fault ∙ e)) (λ e. kept (sym landing.fault ∙ e));
       grows = λ d all outcome stand proper is t has.
-          let grew = groups_written has settle.keeps opens told.changes some (written (told_changes stand is t proper typed).records) (commit.written has.was (settled has.was has.doubt has.stands)) in
-          let Grew : Bool → List Change → Type 0 = λ fault l. HasGroups g.D.Disk.says c.commit-failed.new.journal (grown opens fault l all) in
-          subst (λ (fault : Bool). Grew fault outcome.changes) (sym landing.fault) (subst (Grew failed) t.changes grew);
+          grows_as landing.fault opens t.changes all (groups_written has settle.keeps opens told.changes some (written (told_changes stand is t proper typed).records) (commit.written has.was (settled has.was has.doubt has.stands)));
       no_call = λ none. absurd (some none);
       never_falls = let one = settle.cause.never_falls in let two = commit.never_falls in omega (arith, one, two);
       never_falls_contents = store.cause.never_falls;
