@@ -1,17 +1,22 @@
 -- A depot whose archive was read or stored in, and its run as one beside its archive.
-use Rattle.std.proofs.Common.{◌≡◌, ◌⊎◌, ℕ, ◌≤◌, Bool, true, false, List, [], inl, inr, refl, sym, subst, ◌∙◌, arith}
+use Rattle.std.proofs.Common.{◌≡◌, ◌⊎◌, ℕ, ◌≤◌, Bool, true, false, List, [], inl, inr, refl, sym, ap, subst, ◌∙◌, arith}
+use Rattle.outside_api.specs.Count.{HasRisen}
 use Rattle.outside_api.specs.Disk.{Files, NoMore, Same}
 use Rattle.outside_api.specs.Says.{DiskSays}
 use Rattle.archive_file.specs.Archive.{disk_of, used_of}
 use Rattle.archive_file.specs.declared.archive.Archive.{Archive}
 use Rattle.depot_rows.specs.depot_model.Deeds.{Deed}
 use Rattle.depot_rows.specs.depot_model.Places.{Placed}
-use Rattle.depot_commit.specs.Placing.{EndsAt, HasRunBeside}
+use Rattle.depot_rows.specs.table_store.declared.tables.Tables.{Tables}
+use Rattle.disk_journal.specs.Stands.{disk_of as journal_disk_of}
+use Rattle.disk_journal.specs.declared.journal.Journal.{Journal}
+use Rattle.depot_commit.specs.Placing.{EndsAt, HasRunBeside, StoresBehind}
 use Rattle.depot_commit.specs.Running.{CanCommit, HasRunOver}
 use Rattle.depot_commit.specs.Storing.{AllReach, HasStored, KeepsBelow, stores_end}
+use Rattle.depot_commit.proofs.Beside.{among_now, among_on}
 use Rattle.depot_commit.proofs.Moved.{over_fewer, over_moved}
 use Rattle.depot_commit.proofs.Stored.{keeps_more, stored_keeps}
-use Rattle.serial_depot.specs.Running.{CanTake, HasRun}
+use Rattle.serial_depot.specs.Running.{CanTake, HasRun, HasStayed}
 use Rattle.serial_depot.specs.declared.depot.SerialDepot.{SerialDepot}
 
 -- ---- its archive
@@ -47,6 +52,18 @@ module _ {D : Type 0} (disk_says : DiskSays D) (depot : SerialDepot D) (archive 
       has_run_moved disk_says depot since start places h archive (omega (arith, same_used)) (h.tells.0, same.kept h.tells.0 h.tells.1)
       (keeps_more (disk_says.may_leave (disk_of depot.archive)) (disk_says.may_leave (disk_of archive)) (used_of depot.archive) more)
 
+  -- and a request got no place
+  pub read_stayed : {tables : Tables} {journal : Journal D} {now : Archive D} → (tables ≡ depot.tables) × (journal ≡ depot.journal) × (now ≡ archive) → disk_says.faults (disk_of archive) ≡ disk_says.faults (disk_of depot.archive)
+      → HasStayed disk_says depot (record { tables = tables; journal = journal; archive = now })
+  read_stayed {tables} {journal} {now} kept stood =
+      let all : read ≡ record { tables = tables; journal = journal; archive = now } = λ i. record { tables = sym kept.0 i; journal = sym kept.1 i; archive = sym kept.2 i } in
+      record {
+        tables = kept.0;
+        journal = kept.1;
+        ran = λ since start places h. subst (λ (now : SerialDepot D). HasRun disk_says now since start places) all (read_run since start places h);
+        stood = record { journal = ap (λ (journal : Journal D). disk_says.faults (journal_disk_of journal)) kept.1; archive = ap (λ (archive : Archive D). disk_says.faults (disk_of archive)) kept.2 ∙ stood };
+      }
+
 -- ---- its parts
 
 -- it can take commands, where its journal can commit and its archive ends where its tables say
@@ -79,9 +96,19 @@ module _ {D : Type 0} (disk_says : DiskSays D) where
         (over_fewer disk_says (HasStored images from stores) (stores_end stores from) depot.tables depot.journal since start places h (disk_says.may_leave (disk_of depot.archive)) among);
   }
 
+-- contents were stored in an archive that was read, and a place was run beside them
+pub stored_run : {D : Type 0} {disk_says : DiskSays D} {read : SerialDepot D} → CanTake disk_says read → {since : ℕ} {start : List Deed} {places : List Placed} → HasRun disk_says read since start places
+    → {stored : List (List ℕ)} {now : SerialDepot D} → StoresBehind disk_says stored read.archive now.archive → {more : List Placed}
+    → HasRunBeside disk_says (disk_says.may_leave (disk_of read.archive)) (used_of read.archive) stored now.tables now.journal since start more → HasRun disk_says now since start more
+stored_run {D} {disk_says} {read} can {since} {start} {places} h {stored} {now} behind {more} done =
+    let images = disk_says.may_leave (disk_of read.archive) in
+    depot_of_parts disk_says images (used_of read.archive) stored now since start more done behind.used
+    (among_on disk_says images (used_of read.archive) [] stored read.archive now.archive refl (among_now disk_says read.archive can.room) behind) (behind.tells h.tells.0 h.tells.1)
+
 -- ---- who failed
 
-pub cause_of : (Commits Contents : Type 0) (lost unread : Bool) → (lost ≡ false → Commits) → (lost ≡ true → unread ≡ false → Contents) → (unread ≡ true → Contents) → Commits ⊎ Contents
-cause_of Commits Contents false unread commits stores reads = inl (commits refl)
-cause_of Commits Contents true false commits stores reads = inr (stores refl refl)
-cause_of Commits Contents true true commits stores reads = inr (reads refl)
+pub cause_of : {Commits : Type 0} (before read now : ℕ) → before ≤ read → read ≤ now → (lost unread : Bool) → (lost ≡ false → Commits) → (lost ≡ true → unread ≡ false → HasRisen read now) → (unread ≡ true → HasRisen before read)
+    → Commits ⊎ HasRisen before now
+cause_of before read now first then false unread commits stores reads = inl (commits refl)
+cause_of before read now first then true false commits stores reads = let risen = stores refl refl in inr (omega (arith, first, risen))
+cause_of before read now first then true true commits stores reads = let risen = reads refl in inr (omega (arith, then, risen))

@@ -1,5 +1,6 @@
 -- A depot in files that has taken commands.
-use Rattle.std.specs.Prelude.{◌≡◌, ℕ, Bool, List}
+use Rattle.std.specs.Prelude.{◌≡◌, ◌⊎◌, ℕ, Bool, true, false, List}
+use Rattle.outside_api.specs.Count.{HasRisen}
 use Rattle.outside_api.specs.Disk.{Files}
 use Rattle.outside_api.specs.Says.{DiskSays}
 use Rattle.archive_file.specs.Archive as archives
@@ -35,6 +36,18 @@ pub record CanTake {D : Type 0} (disk_says : DiskSays D) (depot : SerialDepot D)
 pub record HaveStood {D : Type 0} (disk_says : DiskSays D) (old new : SerialDepot D) : Type 0 where
   pub journal : disk_says.faults (disk_of new.journal) ≡ disk_says.faults (disk_of old.journal)
   pub archive : disk_says.faults (archives.disk_of new.archive) ≡ disk_says.faults (archives.disk_of old.archive)
+
+-- Where a place isn't that of a fault no call of a disk failed, and where it is the count of one has risen.
+pub record HaveCause {D : Type 0} (disk_says : DiskSays D) (fault : Bool) (old new : SerialDepot D) : Type 0 where
+  pub only : fault ≡ false → HaveStood disk_says old new
+  pub cause : fault ≡ true → HasRisen (disk_says.faults (disk_of old.journal)) (disk_says.faults (disk_of new.journal)) ⊎ HasRisen (disk_says.faults (archives.disk_of old.archive)) (disk_says.faults (archives.disk_of new.archive))
+
+-- A request got no place: rows and journal are the same, what the depot has run is what it had run, and no call of a disk failed.
+pub record HasStayed {D : Type 0} (disk_says : DiskSays D) (old new : SerialDepot D) : Type 0 where
+  pub tables : new.tables ≡ old.tables
+  pub journal : new.journal ≡ old.journal
+  pub ran : (since : ℕ) (start : List Deed) (places : List Placed) → HasRun disk_says old since start places → HasRun disk_says new since start places
+  pub stood : HaveStood disk_says old new
 
 -- A request got its place: the rows after it, and the groups of the journal, are those before with the changes of its outcome, or the same at a fault place.
 pub record GrowsBy {D : Type 0} (disk_says : DiskSays D) (request : Request) (fault : Bool) (old new : SerialDepot D) : Type 0 where

@@ -22,8 +22,9 @@ use reply_rows::RowContent;
 use std::alloc::Global;
 
 impl<D: Disk> SerialDepot<D> {
-    /// Committed bytes of the journal of a generation from a place on, at the front of the buffer, as far as the buffer and the text go. They are answered
-    /// as by a link to the journal: where none stands there it is the end of the newest generation and of one not there yet, and the next of an older one.
+    /// Committed bytes of the journal of a generation from a place on, at the front of the buffer, as far as the buffer
+    /// and the text go. They are answered as by a link to the journal: where none stands there it is the end of the
+    /// newest generation and of one not there yet, and the next of an older one.
     pub fn fetch(
         &mut self,
         generation: u32,
@@ -31,10 +32,12 @@ impl<D: Disk> SerialDepot<D> {
         buffer: &mut [u8],
     ) -> Result<Fetched, DiskFault>
         requires room { 0 < length buffer.old }
-        ensures answers { (texts : List (List ℕ)) → HasTexts D.says self.old.journal texts → IfOk result (λ fetched. Answers texts generation at fetched buffer.new) }
+        ensures answers { (texts : List (List ℕ)) → HasTexts D.says self.old.journal texts →
+            IfOk result (λ fetched. Answers texts generation at fetched buffer.new) }
         ensures fits { IfOk result (λ fetched. Fits fetched (length buffer.old)) }
         ensures can { CanTake D.says self.old → CanTake D.says self.new }
-        ensures ran { (since : ℕ) (start : List Deed) (places : List Placed) → HasRun D.says self.old since start places →
+        ensures ran { (since : ℕ) (start : List Deed) (places : List Placed) →
+            HasRun D.says self.old since start places →
             HasRun D.says self.new since start places }
         ensures groups { (c : Chronicle) → HasGroups D.says self.old.journal c → HasGroups D.says self.new.journal c }
         ensures tables { self.new.tables ≡ self.old.tables }
@@ -46,16 +49,20 @@ impl<D: Disk> SerialDepot<D> {
         fetch_texts(&mut self.journal, generation, at, buffer)
     }
 
-    /// The contents of these places, in their order: each the bytes at its spot of the archive, or a copy of the text that is given. A spot that ends behind
-    /// what is used of the archive, which no row of the tables has, is answered as want of memory. Without places no call of the disk is made.
+    /// The contents of these places, in their order: each the bytes at its spot of the archive, or a copy of the text
+    /// that is given. A spot that ends behind what is used of the archive, which no row of the tables has, is answered
+    /// as want of memory. Without places no call of the disk is made.
     pub fn contents(
         &mut self,
         alloc: Global,
         places: &[RowContent],
     ) -> Result<Sequence<Text>, ContentFault>
-        ensures contents { (files : Files) (contents : List (List ℕ)) → D.says.seen (archive_disk_of self.old.archive) files → AreAt (files 0) places.now contents → IfOk result (λ texts. texts ≡ contents) }
+        ensures contents { (files : Files) (contents : List (List ℕ)) →
+            D.says.seen (archive_disk_of self.old.archive) files → AreAt (files 0) places.now contents →
+            IfOk result (λ texts. texts ≡ contents) }
         ensures can { CanTake D.says self.old → CanTake D.says self.new }
-        ensures ran { (since : ℕ) (start : List Deed) (places : List Placed) → HasRun D.says self.old since start places →
+        ensures ran { (since : ℕ) (start : List Deed) (places : List Placed) →
+            HasRun D.says self.old since start places →
             HasRun D.says self.new since start places }
         ensures tables { self.new.tables ≡ self.old.tables }
         ensures journal { self.new.journal ≡ self.old.journal }

@@ -48,6 +48,12 @@ returns-clause-grows g c = λ proper.
     λ d stand. c.in_ok-outcome.ensures.outcome d stand.sound (formed_of request proper) (has_needed rows d request stand) in
     record { outcome = c.in_ok-outcome.outcome; is = is; rows = c.in_ok-answer.ensures.rows tt; groups = λ d all stand has. c.in_ok-answer.ensures.grows d all stand proper is has }
 
+pub returns-clause-only : goal.returns-clause-only
+returns-clause-only g c = λ whole. c.in_ok-answer.ensures.caused.only whole
+
+pub returns-clause-cause : goal.returns-clause-cause
+returns-clause-cause g c = λ failed. c.in_ok-answer.ensures.caused.cause failed
+
 -- ---- no memory was left for the evaluation
 
 pub returns-in_err-outcome-clause-no_memory : goal.returns-in_err-outcome-clause-no_memory
@@ -62,7 +68,13 @@ returns-in_err-outcome-clause-stored g c = stored_same g.D.Disk.says c.args.self
 -- ---- no memory was left behind the evaluation
 
 pub returns-in_err-answer-clause-same : goal.returns-in_err-answer-clause-same
-returns-in_err-answer-clause-same g c = on_err c.from_residual-in_err-answer.result _ (c.in_err-answer.ensures.same_tables, c.in_err-answer.ensures.same_journal)
+returns-in_err-answer-clause-same g c = on_err c.from_residual-in_err-answer.result _ (c.in_err-answer.ensures.unplaced.tables, c.in_err-answer.ensures.unplaced.journal)
+
+pub returns-in_err-answer-clause-nothing : goal.returns-in_err-answer-clause-nothing
+returns-in_err-answer-clause-nothing g c = λ since start places h. on_err c.from_residual-in_err-answer.result _ (c.in_err-answer.ensures.unplaced.ran since start places h)
+
+pub returns-in_err-answer-clause-no_memory : goal.returns-in_err-answer-clause-no_memory
+returns-in_err-answer-clause-no_memory g c = on_err c.from_residual-in_err-answer.result _ c.in_err-answer.ensures.unplaced.stood
 
 pub returns-in_err-answer-clause-no_write : goal.returns-in_err-answer-clause-no_write
 returns-in_err-answer-clause-no_write g c = λ d stand proper same.
