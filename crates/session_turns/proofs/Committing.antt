@@ -1,11 +1,14 @@
 -- The commit of one of the parties, and its answer.
-use Rattle.std.proofs.Common.{◌≡◌, ℕ, ◌+◌, Bool, true, false, List, [], ◌∷◌, ◌++◌, map, set, Option, Some, None, Result, Ok, Err, refl, sym, ap, subst, ◌∙◌, inl, append-nil}
+use Rattle.std.proofs.Common.{◌≡◌, ◌≤◌, ℕ, ◌+◌, Bool, true, false, List, [], ◌∷◌, ◌++◌, map, set, Option, Some, None, Result, Ok, Err, refl, sym, ap, subst, ◌∙◌, inl, append-nil, arith}
 use Rattle.std.specs.Prelude.{IfOk, OnErr, slice_get, option_map}
 use Rattle.std.specs.Option.{IsSomeAnd}
 use Rattle.std.proofs.lemmas.Bool.{lt-ltb}
 use Rattle.std.proofs.lemmas.List.{map-set}
 use Rattle.std.proofs.lemmas.Option.{slice_get-map, slice_get_within}
 use Rattle.outside_api.specs.Says.{DiskSays, SinkSays}
+use Rattle.archive_file.specs.Archive as archives
+use Rattle.disk_journal.specs.Stands.{disk_of}
+use Rattle.session_loop.proofs.Faults.{caused_once, caused_same, stand_once}
 use Rattle.depot_rows.specs.depot_model.Deeds.{Deed}
 use Rattle.depot_rows.specs.depot_model.Places.{Placed, taken, told_at}
 use Rattle.depot_rows.specs.depot_model.Printed.{printed}
@@ -28,7 +31,7 @@ use Rattle.run_parties.specs.command_core.declared.outcome.Outcome.{Outcome}
 use Rattle.run_parties.specs.replica_turns.Master.{IsMaster, Past}
 use Rattle.run_parties.specs.depot_commit.Committing.{AreRowsAfter, IsOutcomeOf}
 use Rattle.run_parties.specs.depot_commit.Growing.{Chronicle}
-use Rattle.run_parties.specs.serial_depot.Running.{HasRun}
+use Rattle.run_parties.specs.serial_depot.Running.{HasRun, HaveCause, HaveStood}
 use Rattle.run_parties.specs.serial_depot.declared.depot.SerialDepot.{SerialDepot}
 use Rattle.session_loop.specs.Taking.{IsProper, place_by, placed_by}
 use Rattle.session_loop.specs.declared.session.SessionRun.{SessionRun}
@@ -39,7 +42,7 @@ use Rattle.session_turns.specs.Along.{GrowsTo}
 use Rattle.session_turns.specs.Answering.{IsAnsweredAt, has_more_at, reply_of}
 use Rattle.session_turns.specs.Drawn.{ended}
 use Rattle.session_turns.specs.Running.{IsUnderWay, Scene}
-use Rattle.session_turns.specs.Taking.{IsAtHand, IsDue, IsPlaced, IsRunning, IsUnplaced, TakesTurn, finish_for}
+use Rattle.session_turns.specs.Taking.{FaultsAreCounted, IsAtHand, IsBehind, IsDue, IsPlaced, IsRunning, IsUnplaced, TakesTurn, finish_for}
 use Rattle.session_turns.specs.declared.turns.Turns.{Turns}
 use Rattle.depot_rows.specs.table_changes.Changed.{AllRows, changed_by, rows_of}
 
@@ -50,10 +53,28 @@ outcome_of start s core i request outcome depot ready rows end =
     let P : AllRows → ℕ → Type 0 = λ all from. IsOutcomeOf all from request outcome in
     subst (P (rows_of depot.tables)) end (subst (λ (all : AllRows). P all core.tables.archive_end) rows ready.outcome_is)
 
--- the places of an order stay, and at most one comes
-grown_by : {E : Type 0} (order order' : List Place) (answer : Result Answer E) → IfOk answer (λ (a : Answer). order' ≡ order ++ a.place ∷ []) → OnErr answer (order' ≡ order) → (more : List Place) × (order' ≡ order ++ more)
-grown_by order order' (Ok answer) more same = (answer.place ∷ [], more)
-grown_by order order' (Err error) more same = ([], same ∙ sym (append-nil order))
+-- ---- the counts of the disks
+
+module _ {D : Type 0} {disk_says : DiskSays D} {old new : SerialDepot D} {old_order new_order : List Place} where
+  -- no place came, and no call failed
+  pub counted_none : new_order ≡ old_order → HaveStood disk_says old new → FaultsAreCounted disk_says old new old_order new_order
+  counted_none same stood =
+      let journal = stood.journal in
+      let archive = stood.archive in
+      record { faults = caused_same _ _ _ _ old_order new_order same (omega (arith, journal)) (omega (arith, archive)); stand = λ none. (journal, archive) }
+
+  -- one came
+  pub counted_one : (place : Place) → new_order ≡ old_order ++ place ∷ [] → disk_says.faults (disk_of old.journal) ≤ disk_says.faults (disk_of new.journal)
+      → disk_says.faults (archives.disk_of old.archive) ≤ disk_says.faults (archives.disk_of new.archive) → HaveCause disk_says place.fault old new → FaultsAreCounted disk_says old new old_order new_order
+  counted_one place more le contents_le caused =
+      subst (FaultsAreCounted disk_says old new old_order) (sym more) (record {
+        faults = caused_once _ _ _ _ old_order place place.fault refl le contents_le caused.cause;
+        stand = stand_once _ _ _ _ old_order place place.fault refl (λ whole. let stood = caused.only whole in (stood.journal, stood.archive));
+      })
+
+-- nothing was done
+pub counted_same : {D : Type 0} {disk_says : DiskSays D} {depot : SerialDepot D} {old_order new_order : List Place} → new_order ≡ old_order → FaultsAreCounted disk_says depot depot old_order new_order
+counted_same same = counted_none same (record { journal = refl; archive = refl })
 
 module _ {D K : Type 0} (disk_says : DiskSays D) (sink_says : SinkSays K) (may_give : ℕ → Type 0) (scene : Scene) (s : State) (old : Turns D K)
     (r : IsRunning disk_says sink_says may_give scene s old) (i : ℕ) where
@@ -180,8 +201,9 @@ module _ {D K : Type 0} (disk_says : DiskSays D) (sink_says : SinkSays K) (may_g
               }
 
       -- it found no memory
-      committed_unplaced : (error : E) → IsUnplaced disk_says old.depot new.depot → new.order.items ≡ order → Finishes old.core mid i (finish_for (Err error)) → IsCommitted {E = E} mid new (Err error)
-      committed_unplaced error none same finishes =
+      committed_unplaced : (error : E) → IsUnplaced disk_says old.depot new.depot order new.order.items → Finishes old.core mid i (finish_for (Err error)) → IsCommitted {E = E} mid new (Err error)
+      committed_unplaced error none finishes =
+          let same = none.order in
           let undone = finishes scene.start s request commit in
           let P : List Place → Type 0 = λ o. Ran new.depot (map (placed scene.sessions) o) in
           let Q : List Place → Type 0 = λ o. IsNext may_give scene.sessions scene.start (session_counts scene.scripts runs) i m order o (reply_of (Err error) (m + 1)) in
@@ -248,18 +270,15 @@ module _ {D K : Type 0} (disk_says : DiskSays D) (sink_says : SinkSays K) (may_g
   module _ (mid : LockCore) (new : Turns D K) (failed : Bool) {E : Type 0} where
     pub made : (outcome : Result Outcome E) (answer : Result Answer E) → IsAtHand scene.start s old.core i outcome
         → ((request : Request) (is : IsDue scene.start s old.core old.depot i request outcome) → IfOk answer (IsPlaced disk_says scene.since scene.start places request is.found old.depot new.depot))
-        → IfOk answer (λ (a : Answer). (found : Outcome) × (outcome ≡ Ok found)) → OnErr answer (IsUnplaced disk_says old.depot new.depot)
-        → IfOk answer (λ (a : Answer). new.order.items ≡ order ++ a.place ∷ []) → OnErr answer (new.order.items ≡ order) → Finishes old.core mid i (finish_for answer)
+        → IfOk answer (λ (a : Answer). IsBehind outcome a order new.order.items) → OnErr answer (IsUnplaced disk_says old.depot new.depot order new.order.items) → Finishes old.core mid i (finish_for answer)
         → IsAnsweredAt sink_says i (reply_of answer) runs new.runs.items old.sinks.items new.sinks.items failed → new.core.tables ≡ mid.tables → mid.tables.archive_end ≡ new.depot.tables.archive_end
         → ((t : State) → Shows scene.start mid t → Shows scene.start new.core (ended t i failed)) → new.totals ≡ old.totals
         → TakesTurn disk_says sink_says may_give scene s i old new
-    made (Ok outcome) (Ok answer) hand got found none more same finishes a tables end shows totals =
-        let placed_one = committed_placed hand.0 hand.1.commit {E = E} mid new outcome hand.1 answer (got hand.0 (due hand.0 hand.1.commit {E = E} outcome hand.1)) more finishes in
-        answered hand.0 hand.1.commit {E = E} mid new (Ok answer) placed_one failed a tables end shows totals (grown_by {E = E} order new.order.items (Ok answer) more same)
-    made (Ok outcome) (Err error) hand got found none more same finishes a tables end shows totals =
-        answered hand.0 hand.1.commit {E = E} mid new (Err error) (committed_unplaced hand.0 hand.1.commit {E = E} mid new error none same finishes) failed a tables end shows totals
-        (grown_by {E = E} order new.order.items (Err error) more same)
-    made (Err error) (Ok answer) hand got found none more same finishes a tables end shows totals = absurd (let is : Err error ≡ Ok found.0 = found.1 in cc)
-    made (Err error) (Err other) hand got found none more same finishes a tables end shows totals =
-        answered hand.0 hand.1 {E = E} mid new (Err other) (committed_unplaced hand.0 hand.1 {E = E} mid new other none same finishes) failed a tables end shows totals
-        (grown_by {E = E} order new.order.items (Err other) more same)
+    made (Ok outcome) (Ok answer) hand got behind none finishes a tables end shows totals =
+        let placed_one = committed_placed hand.0 hand.1.commit {E = E} mid new outcome hand.1 answer (got hand.0 (due hand.0 hand.1.commit {E = E} outcome hand.1)) behind.order finishes in
+        answered hand.0 hand.1.commit {E = E} mid new (Ok answer) placed_one failed a tables end shows totals (answer.place ∷ [], behind.order)
+    made (Ok outcome) (Err error) hand got behind none finishes a tables end shows totals =
+        answered hand.0 hand.1.commit {E = E} mid new (Err error) (committed_unplaced hand.0 hand.1.commit {E = E} mid new error none finishes) failed a tables end shows totals ([], none.order ∙ sym (append-nil order))
+    made (Err error) (Ok answer) hand got behind none finishes a tables end shows totals = absurd (let is : Err error ≡ Ok behind.found = behind.is in cc)
+    made (Err error) (Err other) hand got behind none finishes a tables end shows totals =
+        answered hand.0 hand.1 {E = E} mid new (Err other) (committed_unplaced hand.0 hand.1 {E = E} mid new other none finishes) failed a tables end shows totals ([], none.order ∙ sym (append-nil order))

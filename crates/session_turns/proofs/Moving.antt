@@ -1,5 +1,5 @@
 -- A turn of one of the parties that is no commit.
-use Rattle.std.proofs.Common.{◌≡◌, ℕ, true, false, [], Option, refl, sym, ap, subst, ◌∙◌, inl, append-nil}
+use Rattle.std.proofs.Common.{◌≡◌, ℕ, true, false, List, [], Option, Result, Ok, Err, refl, sym, ap, subst, ◌∙◌, inl, append-nil}
 use Rattle.std.specs.Option.{IsSomeAnd}
 use Rattle.outside_api.specs.Says.{DiskSays, SinkSays}
 use Rattle.lock_core.specs.Core.{IsTurn, Shows}
@@ -11,22 +11,33 @@ use Rattle.session_turns.proofs.Drawing.{found_at}
 use Rattle.session_turns.proofs.Events.{never_judged}
 use Rattle.session_turns.proofs.Turning.{quiet_more}
 use Rattle.session_turns.specs.Running.{Scene}
-use Rattle.session_turns.specs.Taking.{IsRunning, TakesTurn}
+use Rattle.session_turns.specs.Taking.{IsAtHand, IsRunning, TakesTurn}
 use Rattle.session_turns.specs.declared.turns.Turns.{Turns}
+use Rattle.depot_rows.specs.depot_model.Deeds.{Deed}
 use Rattle.depot_rows.specs.table_changes.Changed.{rows_of}
+use Rattle.run_parties.specs.command_core.declared.outcome.Outcome.{Outcome}
 use Rattle.depot_rows.specs.table_store.declared.tables.Tables.{Tables}
+
+-- a turn of the core after which a commit is at hand
+pub record IsReached {E : Type 0} (start : List Deed) (s : State) (old new : LockCore) (i : ℕ) (outcome : Result Outcome E) : Type 0 where
+  pub hand : IsAtHand start s new i outcome
+  pub tables : new.tables ≡ old.tables
+
+hand_shows : {E : Type 0} {start : List Deed} {s : State} {core : LockCore} (i : ℕ) (outcome : Result Outcome E) → IsAtHand start s core i outcome → Shows start core s
+hand_shows i (Ok outcome) hand = hand.1.commit.shows
+hand_shows i (Err error) hand = hand.1.shows
 
 module _ {D K : Type 0} (disk_says : DiskSays D) (sink_says : SinkSays K) (may_give : ℕ → Type 0) (scene : Scene) (s : State) (old : Turns D K)
     (r : IsRunning disk_says sink_says may_give scene s old) (new : LockCore) where
-  -- the same machine, as another core shows it
-  pub same_machine : Shows scene.start new s → new.tables ≡ old.core.tables → IsRunning disk_says sink_says may_give scene s (record old { core = new })
-  same_machine shows same = record {
+  -- a commit is at hand: the same machine, as another core shows it
+  pub reached : {i : ℕ} {E : Type 0} {outcome : Result Outcome E} → IsReached scene.start s old.core new i outcome → IsRunning disk_says sink_says may_give scene s (record old { core = new })
+  reached {i} {E} {outcome} reaches = record {
     formed = r.formed;
     under_way = r.under_way;
     totals = r.totals;
-    shows = shows;
-    rows = ap rows_of same ∙ r.rows;
-    end = ap (λ (t : Tables). t.archive_end) same ∙ r.end;
+    shows = hand_shows i outcome reaches.hand;
+    rows = ap rows_of reaches.tables ∙ r.rows;
+    end = ap (λ (t : Tables). t.archive_end) reaches.tables ∙ r.end;
     ran = r.ran;
   }
 

@@ -1,5 +1,5 @@
 -- The machine, the depot in files and the sinks between two turns, and what a turn of the machine does. This project's own choice.
-use Rattle.std.specs.Prelude.{◌≡◌, ◌++◌, ℕ, Bool, List, length, map, slice_get, All, Some, Result, Ok, Err, if◌then◌else◌}
+use Rattle.std.specs.Prelude.{◌≡◌, ◌∷◌, ◌++◌, [], ℕ, Bool, List, length, map, slice_get, All, Some, Result, Ok, Err, if◌then◌else◌}
 use Rattle.outside_api.specs.Says.{DiskSays, SinkSays}
 use Rattle.archive_file.specs.Archive as archives
 use Rattle.depot_rows.specs.depot_model.Deeds.{Deed}
@@ -59,11 +59,23 @@ pub record IsPlaced {D : Type 0} (disk_says : DiskSays D) (since : ℕ) (start :
   pub rows : AreRowsAfter (rows_of old.tables) outcome.changes answer.place.fault (rows_of new.tables)
   pub grows : (past : Past) (c : Chronicle) → IsMaster disk_says past start places old c → GrowsTo disk_says past start (with_place places request answer) new c
 
--- It got none: all that the depot has run is what it had run.
-pub record IsUnplaced {D : Type 0} (disk_says : DiskSays D) (old new : SerialDepot D) : Type 0 where
+-- There was an outcome, and its place is behind the order.
+pub record IsBehind {E : Type 0} (outcome : Result Outcome E) (answer : Answer) (old_order new_order : List Place) : Type 0 where
+  pub found : Outcome
+  pub is : outcome ≡ Ok found
+  pub order : new_order ≡ old_order ++ answer.place ∷ []
+
+-- It got none: all that the depot has run is what it had run, and the order is the same.
+pub record IsUnplaced {D : Type 0} (disk_says : DiskSays D) (old new : SerialDepot D) (old_order new_order : List Place) : Type 0 where
   pub ran : (since : ℕ) (start : List Deed) (places : List Placed) → HasRun disk_says old since start places → HasRun disk_says new since start places
   pub tables : new.tables ≡ old.tables
   pub master : (past : Past) (start : List Deed) (places : List Placed) (c : Chronicle) → IsMaster disk_says past start places old c → IsMaster disk_says past start places new c
+  pub order : new_order ≡ old_order
+
+-- There come at most as many fault places as the counts of the two disks rise, and where none comes these stand.
+pub record FaultsAreCounted {D : Type 0} (disk_says : DiskSays D) (old new : SerialDepot D) (old_order new_order : List Place) : Type 0 where
+  pub faults : AreCaused (disk_says.faults (disk_of old.journal)) (disk_says.faults (disk_of new.journal)) (disk_says.faults (archives.disk_of old.archive)) (disk_says.faults (archives.disk_of new.archive)) old_order new_order
+  pub stand : StandWithoutFaults (disk_says.faults (disk_of old.journal)) (disk_says.faults (disk_of new.journal)) (disk_says.faults (archives.disk_of old.archive)) (disk_says.faults (archives.disk_of new.archive)) old_order new_order
 
 -- ---- between two turns
 

@@ -1,19 +1,16 @@
 //! The place of a commit.
 
-ghost use Rattle.std.specs.Prelude.{◌≡◌, ◌<◌, ◌++◌, ◌∷◌, [], ℕ, List, IfOk, OnErr, OnOk, Ok, vec_len, vec_capacity};
-ghost use Rattle.archive_file.specs.Archive.{disk_of as archive_disk_of};
+ghost use Rattle.std.specs.Prelude.{◌≡◌, ◌<◌, ℕ, List, IfOk, OnErr, OnOk, vec_len, vec_capacity};
 ghost use Rattle.depot_rows.specs.depot_model.Deeds.{Deed};
 ghost use Rattle.depot_rows.specs.depot_model.Places.{Placed};
 ghost use Rattle.depot_rows.specs.depot_model.declared.request.Request.{Request as AnyRequest};
 ghost use Rattle.depot_rows.specs.table_changes.Changed.{changed_by, rows_of};
-ghost use Rattle.disk_journal.specs.Stands.{disk_of};
 ghost use Rattle.lock_core.specs.Core.{IsReady, Shows};
 ghost use Rattle.lock_machine.specs.Machine.{State};
 ghost use Rattle.run_parties.specs.command_core.declared.outcome.Outcome.{Outcome as AnyOutcome};
 ghost use Rattle.run_parties.specs.serial_depot.Running.{CanTake, HasRun};
-ghost use Rattle.session_loop.specs.Served.{AreCaused, StandWithoutFaults};
 ghost use Rattle.session_turns.specs.Drawn.{ended};
-ghost use Rattle.session_turns.specs.Taking.{IsDue, IsPlaced, IsUnplaced, finish_for};
+ghost use Rattle.session_turns.specs.Taking.{FaultsAreCounted, IsBehind, IsDue, IsPlaced, IsUnplaced, finish_for};
 
 use command_core::Outcome;
 use depot_rows::model::{Answer, Place};
@@ -57,16 +54,9 @@ pub(crate) fn place_commit<D: Disk, G: Gate>(
         HasRun D.says depot.old since start places →
         (due : IsDue start s core.now depot.old party request outcome) →
         IfOk result (IsPlaced D.says since start places request due.found depot.old depot.new) }
-    ensures found { IfOk result (λ answer. (found : AnyOutcome) × (outcome ≡ Ok found)) }
-    ensures unplaced { OnErr result (IsUnplaced D.says depot.old depot.new) }
-    ensures order { IfOk result (λ answer. order.new.items ≡ order.old.items ++ answer.place ∷ []) }
-    ensures same_order { OnErr result (order.new.items ≡ order.old.items) }
-    ensures stand { StandWithoutFaults (D.says.faults (disk_of depot.old.journal))
-        (D.says.faults (disk_of depot.new.journal)) (D.says.faults (archive_disk_of depot.old.archive))
-        (D.says.faults (archive_disk_of depot.new.archive)) order.old.items order.new.items }
-    ensures faults { AreCaused (D.says.faults (disk_of depot.old.journal)) (D.says.faults (disk_of depot.new.journal))
-        (D.says.faults (archive_disk_of depot.old.archive))
-        (D.says.faults (archive_disk_of depot.new.archive)) order.old.items order.new.items }
+    ensures behind { IfOk result (λ answer. IsBehind outcome answer order.old.items order.new.items) }
+    ensures unplaced { OnErr result (IsUnplaced D.says depot.old depot.new order.old.items order.new.items) }
+    ensures counted { FaultsAreCounted D.says depot.old depot.new order.old.items order.new.items }
 {
     let outcome = match outcome {
         Ok(outcome) => outcome,

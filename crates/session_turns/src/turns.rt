@@ -6,12 +6,11 @@ ghost use Rattle.lock_machine.specs.Machine.{State, is_enabled};
 ghost use Rattle.session_turns.specs.Drawn.{Progress};
 ghost use Rattle.session_turns.specs.Going.{Advances, AreGoing, HaveLost, HaveTold, TakesTurns, all_left};
 ghost use Rattle.session_turns.specs.Running.{Scene};
-ghost use Rattle.session_turns.specs.Taking.{CanGoOn, HaveCauses, HaveStoodWithout, IsAtHand, IsRunning, StayWithin, TakesTurn};
+ghost use Rattle.session_turns.specs.Taking.{CanGoOn, FaultsAreCounted, HaveCauses, IsRunning, StayWithin, TakesTurn};
 
 use crate::answers::{answer_party, has_more, reply_in};
 use crate::commits::{how_of, place_commit, stop_if};
 use crate::replicas::Replicas;
-use command_core::Outcome;
 use depot_rows::model::Place;
 use lock_core::{LockCore, Turn};
 use outside_api::{Clock, Disk, Gate, Sink};
@@ -39,27 +38,31 @@ pub(crate) struct Turns<D: Disk, K: Sink> {
 }
 
 impl<D: Disk, K: Sink> Turns<D, K> {
-    /// Makes the commit of a party that is at hand, and answers its command at once. Where all its commands are
-    /// answered already, as in no run of a depot, it does nothing and says so.
-    fn make_commit<C: Clock, G: Gate>(
+    /// Makes the turn of a party's session: its event, or its commit, whose command is answered at once. Where its
+    /// event isn't enabled, or all its commands are answered already, as in no run of a depot, it says that it made
+    /// none.
+    fn take_turn<C: Clock, G: Gate>(
         &mut self,
         alloc: Global,
         party: u32,
         clock: &C,
         gate: &G,
-        outcome: Result<Outcome, AllocError>,
     ) -> bool
         requires can { CanGoOn D.says self.old }
         ensures can { CanGoOn D.says self.new }
         ensures turn { (scene : Scene) (s : State) →
-            IsRunning D.says K.says (C.says.may_give clock.now) scene s self.old →
-            is_enabled s party ≡ true → IsAtHand scene.start s self.old.core party outcome →
+            IsRunning D.says K.says (C.says.may_give clock.now) scene s self.old → is_enabled s party ≡ true →
             (result ≡ true) × TakesTurn D.says K.says (C.says.may_give clock.now) scene s party self.old self.new }
         ensures replicas { self.new.replicas ≡ self.old.replicas }
         ensures within { StayWithin K.says self.old self.new }
-        ensures stand { HaveStoodWithout D.says self.old self.new }
-        ensures faults { HaveCauses D.says self.old self.new }
+        ensures counted { FaultsAreCounted D.says self.old.depot self.new.depot self.old.order.items self.new.order.items }
     {
+        let outcome = match self.core.turn(alloc, party) {
+            Ok(Turn::Idle) => return false,
+            Ok(Turn::Moved) => return true,
+            Ok(Turn::Ready(outcome)) => Ok(outcome),
+            Err(error) => Err(error),
+        };
         let at = party as usize;
         if !has_more(&self.runs, &self.totals, at) {
             drop(outcome);
@@ -79,32 +82,6 @@ impl<D: Disk, K: Sink> Turns<D, K> {
         let failed = answer_party(at, reply_in(answer), &mut self.runs, &mut self.sinks);
         stop_if(&mut self.core, party, failed);
         true
-    }
-
-    /// Makes the turn of a party's session. Where its event isn't enabled, it does nothing and says so.
-    fn take_turn<C: Clock, G: Gate>(
-        &mut self,
-        alloc: Global,
-        party: u32,
-        clock: &C,
-        gate: &G,
-    ) -> bool
-        requires can { CanGoOn D.says self.old }
-        ensures can { CanGoOn D.says self.new }
-        ensures turn { (scene : Scene) (s : State) →
-            IsRunning D.says K.says (C.says.may_give clock.now) scene s self.old → is_enabled s party ≡ true →
-            (result ≡ true) × TakesTurn D.says K.says (C.says.may_give clock.now) scene s party self.old self.new }
-        ensures replicas { self.new.replicas ≡ self.old.replicas }
-        ensures within { StayWithin K.says self.old self.new }
-        ensures stand { HaveStoodWithout D.says self.old self.new }
-        ensures faults { HaveCauses D.says self.old self.new }
-    {
-        match self.core.turn(alloc, party) {
-            Ok(Turn::Idle) => false,
-            Ok(Turn::Moved) => true,
-            Ok(Turn::Ready(outcome)) => self.make_commit(alloc, party, clock, gate, Ok(outcome)),
-            Err(error) => self.make_commit(alloc, party, clock, gate, Err(error)),
-        }
     }
 
     /// Makes the turn of a replica that has commands left: it answers the next one. Where all its commands are answered

@@ -1,70 +1,97 @@
-use Rattle.std.proofs.Common.{refl, subst, arith}
+use Rattle.std.proofs.Common.{◌≡◌, List, [], true, false, refl, sym, ap, subst, ◌∙◌, arith}
+use Rattle.std.specs.Prelude.{slice_get}
+use Rattle.depot_rows.specs.table_store.declared.tables.Tables.{Tables}
 use Rattle.lock_core.specs.Core.{IsTurn}
-use Rattle.lock_core.specs.declared.turn.Turn.{Turn}
-use Rattle.session_loop.proofs.Faults.{caused_same, stand_same}
-use Rattle.session_turns.proofs.Moving.{idle_turn, moved_turn, same_machine, turn_from}
+use Rattle.lock_core.specs.Finished.{Finishes}
+use Rattle.session_turns.proofs.Committing.{counted_same, hand_more, made}
+use Rattle.session_turns.proofs.Moving.{IsReached, idle_turn, moved_turn, reached, turn_from}
+use Rattle.session_turns.proofs.Within.{as_many_more, has_more_here, more_there, reply_answered, within_more}
+use Rattle.session_turns.proofs.turns.Turns.take_turn.Goals.{in-Ok-Ready, in-Err}
 use Rattle.session_turns.proofs.turns.Turns.take_turn.Goals as goal
 
--- ---- no commit is at hand
+-- ---- its event is no commit
 
-pub returns-in-Ok-Idle-clause-turn : goal.returns-in-Ok-Idle-clause-turn
-returns-in-Ok-Idle-clause-turn g c = λ scene s r enabled.
-    let Did : Turn → Type 0 = IsTurn scene.start s c.args.self.now.core c.turn.new.self c.args.party in
-    idle_turn _ _ _ scene s c.args.self.now r c.turn.new.self c.args.party enabled (subst Did c.in-Ok-Idle.field-0-is (c.in-Ok-Idle.ensures.turn scene.start s r.shows))
+pub returns-in-Ok-Idle : goal.returns-in-Ok-Idle
+returns-in-Ok-Idle g c = record {
+  can = c.requires.can;
+  turn = λ scene s r enabled.
+      let did = subst (IsTurn scene.start s c.args.self.now.core c.turn.new.self c.args.party) c.in-Ok-Idle.field-0-is (c.in-Ok-Idle.ensures.turn scene.start s r.shows) in
+      idle_turn _ _ _ scene s c.args.self.now r c.turn.new.self c.args.party enabled did;
+  replicas = refl;
+  within = (refl, λ before h. h);
+  counted = counted_same refl;
+}
 
-pub returns-in-Ok-Idle-clause-within : goal.returns-in-Ok-Idle-clause-within
-returns-in-Ok-Idle-clause-within g c = (refl, λ before h. h)
+pub returns-in-Ok-Moved : goal.returns-in-Ok-Moved
+returns-in-Ok-Moved g c = record {
+  can = c.requires.can;
+  turn = λ scene s r enabled.
+      let did = subst (IsTurn scene.start s c.args.self.now.core c.turn.new.self c.args.party) c.in-Ok-Moved.field-0-is (c.in-Ok-Moved.ensures.turn scene.start s r.shows) in
+      (refl, moved_turn _ _ _ scene s c.args.self.now r c.turn.new.self c.args.party enabled did);
+  replicas = refl;
+  within = (refl, λ before h. h);
+  counted = counted_same refl;
+}
 
-pub returns-in-Ok-Idle-clause-stand : goal.returns-in-Ok-Idle-clause-stand
-returns-in-Ok-Idle-clause-stand g c = stand_same _ _ c.args.self.now.order.items c.args.self.now.order.items
+-- ---- it is one
 
-pub returns-in-Ok-Idle-clause-faults : goal.returns-in-Ok-Idle-clause-faults
-returns-in-Ok-Idle-clause-faults g c = let order = c.args.self.now.order.items in caused_same _ _ _ _ order order refl (omega arith) (omega arith)
+pub returns-then-not-has_more : goal.returns-then-not-has_more
+returns-then-not-has_more g c = record {
+  can = c.requires.can;
+  turn = λ scene s r enabled.
+      let reaches : IsReached scene.start s c.args.self.now.core c.turn.new.self c.args.party c.match-turn.outcome = elim c.match-turn.branch [
+        | in-Ok-Ready w ↦
+            let did = subst (IsTurn scene.start s c.args.self.now.core c.turn.new.self c.args.party) w.in-Ok-Ready.field-0-is (w.in-Ok-Ready.ensures.turn scene.start s r.shows) in
+            subst (IsReached scene.start s c.args.self.now.core c.turn.new.self c.args.party) (sym w.outcome-is) (record { hand = did.0; tables = did.1 })
+        | in-Err w ↦ subst (IsReached scene.start s c.args.self.now.core c.turn.new.self c.args.party) (sym w.outcome-is) (record { hand = w.in-Err.ensures.commit scene.start s r.shows; tables = w.in-Err.ensures.same.0 })
+      ] in
+      let more = hand_more _ _ _ scene s _ (reached _ _ _ scene s c.args.self.now r c.turn.new.self reaches) c.args.party c.match-turn.outcome reaches.hand in
+      let none = has_more_here c.args.party _ _ _ _ false c.deref.ensures.value c.deref-2.ensures.value c.has_more.ensures.more c.if-not-has_more.true in
+      absurd (let both : true ≡ false = sym more ∙ none in cc);
+  replicas = refl;
+  within = (refl, λ before h. h);
+  counted = counted_same refl;
+}
 
-pub returns-in-Ok-Moved-clause-turn : goal.returns-in-Ok-Moved-clause-turn
-returns-in-Ok-Moved-clause-turn g c = λ scene s r enabled.
-    let Did : Turn → Type 0 = IsTurn scene.start s c.args.self.now.core c.turn.new.self c.args.party in
-    (refl, moved_turn _ _ _ scene s c.args.self.now r c.turn.new.self c.args.party enabled (subst Did c.in-Ok-Moved.field-0-is (c.in-Ok-Moved.ensures.turn scene.start s r.shows)))
+pub answer_party-failed-requires : goal.answer_party-failed-requires
+answer_party-failed-requires g c =
+    let there = more_there c.args.self.now.runs.items c.args.party _ (has_more_here c.args.party _ _ _ _ _ c.deref.ensures.value c.deref-2.ensures.value c.has_more.ensures.more c.if-not-has_more.false) in
+    let same = c.requires.can.1 in
+    record {
+      run = there;
+      sink = omega (arith, there, same);
+      few = λ run at_run. c.has_more.ensures.few c.if-not-has_more.false run (ap (λ (rs : List _). slice_get rs c.args.party) c.deref.ensures.value ∙ at_run);
+    }
 
-pub returns-in-Ok-Moved-clause-within : goal.returns-in-Ok-Moved-clause-within
-returns-in-Ok-Moved-clause-within g c = (refl, λ before h. h)
+pub finish-requires : goal.finish-requires
+finish-requires g c = let fits = c.archive_end.ensures.fits in omega (arith, fits)
 
-pub returns-in-Ok-Moved-clause-stand : goal.returns-in-Ok-Moved-clause-stand
-returns-in-Ok-Moved-clause-stand g c = stand_same _ _ c.args.self.now.order.items c.args.self.now.order.items
-
-pub returns-in-Ok-Moved-clause-faults : goal.returns-in-Ok-Moved-clause-faults
-returns-in-Ok-Moved-clause-faults g c = let order = c.args.self.now.order.items in caused_same _ _ _ _ order order refl (omega arith) (omega arith)
-
--- ---- one is
-
-pub returns-in-Ok-Ready-clause-turn : goal.returns-in-Ok-Ready-clause-turn
-returns-in-Ok-Ready-clause-turn g c = λ scene s r enabled.
-    let Did : Turn → Type 0 = IsTurn scene.start s c.args.self.now.core c.turn.new.self c.args.party in
-    let did = subst Did c.in-Ok-Ready.field-0-is (c.in-Ok-Ready.ensures.turn scene.start s r.shows) in
-    let hand = did.0 in
-    let taken = c.make_commit.ensures.turn scene s (same_machine _ _ _ scene s c.args.self.now r c.turn.new.self hand.1.commit.shows did.1) enabled hand in
-    (taken.0, turn_from _ _ _ scene s c.args.self.now r c.turn.new.self c.args.party _ taken.1)
-
-pub returns-in-Ok-Ready-clause-within : goal.returns-in-Ok-Ready-clause-within
-returns-in-Ok-Ready-clause-within g c = c.make_commit.ensures.within
-
-pub returns-in-Ok-Ready-clause-stand : goal.returns-in-Ok-Ready-clause-stand
-returns-in-Ok-Ready-clause-stand g c = c.make_commit.ensures.stand
-
-pub returns-in-Ok-Ready-clause-faults : goal.returns-in-Ok-Ready-clause-faults
-returns-in-Ok-Ready-clause-faults g c = c.make_commit.ensures.faults
-
-pub returns-in-Err-clause-turn : goal.returns-in-Err-clause-turn
-returns-in-Err-clause-turn g c = λ scene s r enabled.
-    let hand = c.in-Err.ensures.commit scene.start s r.shows in
-    let taken = c.make_commit-in-Err.ensures.turn scene s (same_machine _ _ _ scene s c.args.self.now r c.turn.new.self hand.1.shows c.in-Err.ensures.same.0) enabled hand in
-    (taken.0, turn_from _ _ _ scene s c.args.self.now r c.turn.new.self c.args.party _ taken.1)
-
-pub returns-in-Err-clause-within : goal.returns-in-Err-clause-within
-returns-in-Err-clause-within g c = c.make_commit-in-Err.ensures.within
-
-pub returns-in-Err-clause-stand : goal.returns-in-Err-clause-stand
-returns-in-Err-clause-stand g c = c.make_commit-in-Err.ensures.stand
-
-pub returns-in-Err-clause-faults : goal.returns-in-Err-clause-faults
-returns-in-Err-clause-faults g c = c.make_commit-in-Err.ensures.faults
+pub returns : goal.returns
+returns g c =
+    let says = g.K.Sink.says in
+    let at = c.args.party in
+    let old = c.args.self.now in
+    let place = c.place_commit-answer in
+    let failed = c.answer_party-failed in
+    record {
+      can = (place.ensures.can, as_many_more says [] old.runs.items _ old.sinks.items _ at _ failed.result failed.ensures c.requires.can.1);
+      turn = λ scene s r enabled.
+          let reaches : IsReached scene.start s old.core c.turn.new.self at c.match-turn.outcome = elim c.match-turn.branch [
+            | in-Ok-Ready w ↦
+                let did = subst (IsTurn scene.start s old.core c.turn.new.self at) w.in-Ok-Ready.field-0-is (w.in-Ok-Ready.ensures.turn scene.start s r.shows) in
+                subst (IsReached scene.start s old.core c.turn.new.self at) (sym w.outcome-is) (record { hand = did.0; tables = did.1 })
+            | in-Err w ↦ subst (IsReached scene.start s old.core c.turn.new.self at) (sym w.outcome-is) (record { hand = w.in-Err.ensures.commit scene.start s r.shows; tables = w.in-Err.ensures.same.0 })
+          ] in
+          let taken = made _ says _ scene s _ (reached _ _ _ scene s old r c.turn.new.self reaches) at c.finish.new.self _ failed.result c.match-turn.outcome place.result reaches.hand
+          (λ request due. place.ensures.placed scene.since scene.start _ s request r.ran due) place.ensures.behind place.ensures.unplaced (subst (Finishes c.turn.new.self c.finish.new.self at) c.how_of.ensures c.finish.ensures.finishes)
+          (reply_answered says at place.result c.reply_in.result old.runs.items _ old.sinks.items _ failed.result c.reply_in.ensures failed.ensures)
+          c.stop_if.ensures.tables (c.finish.ensures.end ∙ (c.archive_end.ensures.end ∙ ap (λ (t : Tables). t.archive_end) c.tables.ensures)) (λ t shows. c.stop_if.ensures.shows scene.start t shows) refl in
+          (refl, turn_from _ _ _ scene s old r c.turn.new.self at _ taken);
+      replicas = refl;
+      within = (
+        refl,
+        λ before h. within_more says old.totals.items old.runs.items _ old.sinks.items _ at _ failed.result failed.ensures before h
+            (has_more_here at _ _ _ _ _ c.deref.ensures.value c.deref-2.ensures.value c.has_more.ensures.more c.if-not-has_more.false),
+      );
+      counted = place.ensures.counted;
+    }
