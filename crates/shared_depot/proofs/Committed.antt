@@ -15,10 +15,13 @@ use Rattle.depot_rows.specs.Standing.{Stand}
 use Rattle.depot_rows.specs.table_changes.Changed.{AllRows, changed_by, rows_of}
 use Rattle.depot_rows.specs.table_store.declared.tables.Tables.{Tables}
 use Rattle.disk_journal.specs.declared.journal.Journal.{Journal}
-use Rattle.locked_tables.specs.Known.{LearnsPlace}
+use Rattle.locked_tables.proofs.Placed.{of_archive, of_journal}
+use Rattle.locked_tables.specs.Known.{GoesOnWithout, LearnsPlace, PartyKnown}
+use Rattle.locked_tables.specs.Placing.{TakesPlace, TouchesLanes}
 use Rattle.locked_tables.specs.Taken.{archive_lane, end_after, journal_lane, placed_of, rows_after}
 use Rattle.locked_tables.specs.declared.taken.Taken.{Taken}
 use Rattle.order_words.specs.Lanes.{has_lane}
+use Rattle.order_words.specs.Seats.{Run}
 use Rattle.outside_api.specs.Count.{HasRisen}
 use Rattle.outside_api.specs.Disk.{Files}
 use Rattle.outside_api.specs.Says.{DiskSays}
@@ -26,50 +29,28 @@ use Rattle.party_marks.specs.declared.mark.Mark.{Mark}
 use Rattle.depot_commit.specs.Committing.{AreRowsAfter, IsOutcomeOf}
 use Rattle.depot_commit.specs.Growing.{Chronicle, HasGroups, grown}
 use Rattle.depot_commit.specs.Opening.{opens_generation}
-use Rattle.depot_commit.specs.Placing.{HasRunBeside, StoresBehind}
+use Rattle.depot_commit.specs.Placing.{AreCounted, HasLanded, HasRunBeside, StoresBehind}
 use Rattle.depot_commit.specs.Running.{CanCommit}
 use Rattle.depot_commit.specs.Storing.{HasStored, stores_end}
 use Rattle.depot_commit.specs.Telling.{IsReplyOf, IsTold}
 use Rattle.depot_commit.specs.command_core.declared.outcome.Outcome.{Outcome}
 use Rattle.depot_commit.specs.Holding.{KeepContents}
+use Rattle.depot_commit.specs.declared.landing.Landed.{Landed}
 use Rattle.depot_commit.specs.declared.telling.Told.{Told}
 use Rattle.depot_commit.proofs.Checkpointed.{made_differ}
 use Rattle.depot_commit.proofs.Stored.{ends_twice}
 use Rattle.session_loop.specs.Taking.{IsProper, placed_by, with_place}
-use Rattle.shared_depot.specs.Common.{AreQuiet, GoesOnQuietly, HasRunOrder, IsArchiveAfter, IsCountAfter, IsEntered, IsQuiet, HasFitGroups, KeepsOrder, Masters, WasRun}
-use Rattle.shared_depot.specs.Room.{IsDueAfter, IsStoredBehind}
+use Rattle.shared_depot.specs.Common.{AreQuiet, GoesOnQuietly, HasRunOrder, IsArchiveAfter, IsCountAfter, IsEntered, IsQuiet, IsWrittenAt, HasFitGroups, KeepsOrder, Masters, WasRun}
+use Rattle.shared_depot.specs.Room.{IsDueAfter, IsStoredBehind, IsWritingFor}
 use Rattle.shared_depot.specs.Sharing.{ChangesRows}
-use Rattle.shared_depot.specs.Stored.{is_lost, stores_of}
+use Rattle.shared_depot.specs.Stored.{is_lost, is_unwritten, stores_of}
+use Rattle.shared_depot.specs.declared.writing.Writing.{Writing}
 use Rattle.shared_depot.proofs.Followed.{followed_more, followed_on, written_more}
-use Rattle.shared_depot.proofs.Marks.{count_learnt, count_placed}
+use Rattle.shared_depot.proofs.Marks.{count_learnt, count_placed, count_quietly}
 use Rattle.shared_depot.proofs.Order.{all_rows, archive_then, changed_here, outcome_here, run_more, stored_there}
 use Rattle.shared_depot.proofs.Outcomes.{reply_here}
 use Rattle.shared_depot.proofs.Quietly.{goes_on_quietly, quiet_more}
-use Rattle.shared_depot.proofs.Stored.{stores_spared, stores_touched}
-
--- what the place of an entry at which something was to be written leaves
-pub entered_by : (rows : AllRows) (end : ℕ) (order after : List Taken) (entry : Taken) (used : ℕ) → after ≡ order ++ entry ∷ [] → has_lane entry.lanes journal_lane ≡ true
-    → ((table : TableId) → rows_after rows after table ≡ changed_by (rows_after rows order) entry.changes table) → end_after end after ≡ used → IsEntered rows end order entry used
-entered_by rows end order after entry used placed writes rows_are end_is = record {
-  writes = writes;
-  rows_are = λ table. ap (λ (l : List Taken). rows_after rows l table) (sym placed) ∙ rows_are table;
-  end_is = ap (end_after end) (sym placed) ∙ end_is;
-}
-
--- what was stored at a place, and the lane that has learnt it
-pub stored_behind : {S L : Type 0} (Learns : List Taken → List Taken → L → L → Type 0) (held : Bool) (stores : List (List ℕ) → S → S → Type 0) (faults : S → ℕ)
-    (order now : List Taken) (entry : Taken) (lane lane' : L) (store store' : S) → now ≡ order ++ entry ∷ [] → Learns order now lane lane' → has_lane entry.lanes archive_lane ≡ held
-    → stores entry.stores store store' → (is_lost entry ≡ true → HasRisen (faults store) (faults store')) → (entry.fault ≡ false → faults store' ≡ faults store)
-    → IsStoredBehind Learns held stores faults lane lane' store store'
-stored_behind Learns held stores faults order now entry lane lane' store store' placed learnt touches stored caused stand = record {
-  order = order;
-  entry = entry;
-  learnt = subst (λ (l : List Taken). Learns order l lane lane') placed learnt;
-  touches = touches;
-  stored = stored;
-  caused = caused;
-  stand = stand;
-}
+use Rattle.shared_depot.proofs.Stored.{never_fails, stores_spared, stores_touched, unwritten_only}
 
 module _ {D : Type 0} (disk_says : DiskSays D)
     (rows : AllRows) (end : ℕ) (images : Files → Type 0) (begins : ℕ → List Deed → Type 0) (masters : Masters) where
@@ -120,17 +101,17 @@ module _ {D : Type 0} (disk_says : DiskSays D)
         }
 
     -- one more at which something was to be written
-    pub keeps_written : (used : ℕ) → IsEntered rows end order entry used → (tables' : Tables) → (entry.fault ≡ true → tables' ≡ tables) → (entry.fault ≡ true → entry.changes ≡ [])
-        → (entry.fault ≡ false → (table : TableId) → rows_of tables' table ≡ changed_by (rows_after rows order) entry.changes table)
+    pub keeps_written : {known : List Taken} {held : Bool} → IsWrittenAt disk_says rows end images begins known order held entry → (tables' : Tables) → (entry.fault ≡ true → tables' ≡ tables)
+        → (entry.fault ≡ true → entry.changes ≡ []) → (entry.fault ≡ false → (table : TableId) → rows_of tables' table ≡ changed_by (rows_after rows known) entry.changes table)
         → WasRun disk_says rows end images begins masters (order ++ entry ∷ []) → Keeps (order ++ entry ∷ []) tables'
-    keeps_written used entered tables' same none shown run = record {
-      shown = λ table. go entry.fault refl table ∙ sym (entered.rows_are table);
-      quiet = quiet_more begins rows end order entry was.quiet (λ silent. absurd (true≢false (sym entered.writes ∙ silent)));
+    keeps_written at tables' same none shown run = record {
+      shown = λ table. go entry.fault refl table ∙ sym (at.entered.rows_are table);
+      quiet = quiet_more begins rows end order entry was.quiet (λ silent. absurd (true≢false (sym at.entered.writes ∙ silent)));
       run = run;
     }
       where
         go : (fault : Bool) → entry.fault ≡ fault → (table : TableId) → rows_of tables' table ≡ changed_by (rows_after rows order) entry.changes table
-        go false fine table = shown fine table
+        go false fine table = shown fine table ∙ ap (λ (r : AllRows). changed_by r entry.changes table) (sym at.on.rows_are)
         go true failed table =
             ap (λ (t : Tables). rows_of t table) (same failed)
             ∙ (was.shown table
@@ -162,79 +143,114 @@ module _ {D : Type 0} (disk_says : DiskSays D)
         (written_more disk_says rows end images begins masters order tables journal was tables' journal' request outcome answer.place.fault entry stored asks fault own rows_now stores_are stands ran grows)
         (followed_more disk_says rows end images begins masters order tables journal was tables' journal' request outcome answer.place.fault entry stored asks fault own rows_now stores_are stands ran grows)
 
-  -- ---- what follows a commit over tables and a journal that have run a beginning of the order
+-- ---- what the place of a command leaves at which something was to be written
 
-  module _ (known : List Taken) (tables : Tables) (journal : Journal D) (was : Ran known tables journal) (request : Request) (told : Told) (due : IsDueAfter rows end images begins known request told)
-      (proper : (since : ℕ) (start : List Deed) → begins since start → IsProper request) (after : Tables) (made : (table : TableId) → rows_of after table ≡ changed_by (rows_after rows known) told.changes table)
-      (tables' : Tables) (journal' : Journal D) (can : CanCommit disk_says journal') (answer : Answer) (entry : Taken)
-      (asks : entry.request ≡ request) (fault : entry.fault ≡ answer.place.fault) (own : entry.changes ≡ (if answer.place.fault then [] else told.changes))
-      (rows_now : (outcome : Outcome) → IsTold outcome request.number told → rows_of after ≡ changed_by (rows_of tables) outcome.changes → AreRowsAfter (rows_of tables) outcome.changes answer.place.fault (rows_of tables'))
-      (order : List Taken) (on : GoesOnQuietly disk_says rows end images begins known order) (lanes : ℕ) where
-    abbrev placed : Taken
-    placed = record entry { lanes = lanes }
+module _ {D : Type 0} {disk_says : DiskSays D} {rows : AllRows} {end : ℕ} {images : Files → Type 0} {begins : ℕ → List Deed → Type 0} {masters : Masters} {order : List Taken} {tables : Tables}
+    (was : KeepsOrder disk_says rows end images begins masters order tables) {after : List Taken} {old new : PartyKnown} {entry : Taken} (placed : TakesPlace order after old new entry)
+    {run : Run} {held : Bool} {party : ℕ} {lanes : List ℕ} (touches : TouchesLanes run entry held true party lanes) {known : List Taken} (behind : GoesOnWithout journal_lane known order) where
+  pub written_at : ((table : TableId) → rows_after rows after table ≡ changed_by (rows_after rows order) entry.changes table) → end_after end after ≡ (if held then entry.end else end_after end order)
+      → IsWrittenAt disk_says rows end images begins known order held entry
+  written_at rows_are end_is = record {
+    on = goes_on_quietly disk_says rows end images begins known order was.quiet behind;
+    touches = of_archive touches;
+    entered = record {
+      writes = of_journal touches;
+      rows_are = λ table. ap (λ (l : List Taken). rows_after rows l table) (sym placed.last) ∙ rows_are table;
+      end_is = ap (end_after end) (sym placed.last) ∙ end_is;
+    };
+  }
 
-    abbrev now : Ran order tables journal
-    now = run_on known order on tables journal was
+-- an entry is that of a request that landed, behind which so much of the archive is used
+pub record IsOfLanded (request : Request) (landed : Landed) (used : ℕ) (entry : Taken) : Type 0 where
+  pub asks : entry.request ≡ request
+  pub fault : entry.fault ≡ landed.answer.place.fault
+  pub lost : entry.lost ≡ landed.lost
+  pub changes : entry.changes ≡ landed.changes
+  pub stores : entry.stores ≡ landed.stored
+  pub end : entry.end ≡ used
 
-    abbrev here : IsDueAfter rows end images begins order request told
-    here = due_on known order on request told due
+-- what follows a commit over tables and a journal that have run a beginning of the order
+module _ {D N : Type 0} {disk_says : DiskSays D} {rows : AllRows} {end : ℕ} {images : Files → Type 0} {begins : ℕ → List Deed → Type 0} {masters : Masters} {known : List Taken} {tables : Tables} {journal : Journal D}
+    (was : HasRunOrder disk_says rows end images begins masters known tables journal) {writing : Writing N} (is : IsWritingFor rows end images begins known writing)
+    {order : List Taken} {held : Bool} {entry : Taken} (at : IsWrittenAt disk_says rows end images begins known order held entry) where
+  abbrev now : HasRunOrder disk_says rows end images begins masters order tables journal
+  now = run_on disk_says rows end images begins masters known order at.on tables journal was
 
-    given : rows_of after ≡ changed_by (rows_of tables) due.outcome.changes
-    given =
-        changed_here disk_says rows end images begins masters known tables journal was known refl (rows_of after) told.changes made
-        ∙ ap (changed_by (rows_of tables)) due.tells.changes
+  abbrev here : IsDueAfter rows end images begins order writing.request writing.told
+  here = due_on disk_says rows end images begins masters known order at.on writing.request writing.told is.due
 
-    stands : (since : ℕ) (start : List Deed) → begins since start → IsOutcomeOf (rows_of tables) tables.archive_end request due.outcome
-    unfolding due_on
-    stands since start at = outcome_here disk_says rows end images begins masters order tables journal now order refl request due.outcome here.stands since start at
+  stands : (since : ℕ) (start : List Deed) → begins since start → IsOutcomeOf (rows_of tables) tables.archive_end writing.request is.due.outcome
+  unfolding due_on
+  stands since start begun = outcome_here disk_says rows end images begins masters order tables journal now order refl writing.request is.due.outcome here.stands since start begun
 
-    own_changes : entry.changes ≡ (if entry.fault then [] else due.outcome.changes)
-    own_changes =
-        own
-        ∙ (ap (λ (l : List Change). if answer.place.fault then [] else l) due.tells.changes
-        ∙ ap (λ (b : Bool). if b then [] else due.outcome.changes) (sym fault))
+  -- the reply is that of the depot that has run the order
+  pub reply_then : (since : ℕ) (start : List Deed) → begins since start → IsReplyOf (taken step start (map placed_of order)) writing.request writing.told
+  reply_then since start begun = reply_after disk_says rows end images begins masters order tables journal now writing.request writing.told here since start begun
+
+  -- some row differs after it
+  pub changes_then : (since : ℕ) (start : List Deed) → begins since start → ChangesRows (taken step start (map placed_of order)) writing.request
+  changes_then since start begun =
+      let d = taken step start (map placed_of order) in
+      let stand = (now.ran since start begun).stand in
+      made_differ (rows_of tables) d writing.request is.due.outcome.changes stand (stands since start begun d stand).changes (λ none. is.some (is.due.tells.changes ∙ none))
+
+  -- tables and a journal have run the order with its place, and the contents that it stored
+  module _ {S : Type 0} {stores : List (List ℕ) → S → S → Type 0} {landed : Landed} (tables' : Tables) {store store' : S} (has : HasLanded stores writing.told landed tables.archive_end tables'.archive_end store store')
+      (of : IsOfLanded writing.request landed tables'.archive_end entry) (proper : (since : ℕ) (start : List Deed) → begins since start → IsProper writing.request) (none : held ≡ false → writing.told.stores ≡ [])
+      {journal' : Journal D} (can : CanCommit disk_says journal') where
+    given : rows_of writing.after ≡ changed_by (rows_of tables) is.due.outcome.changes
+    given = changed_here disk_says rows end images begins masters known tables journal was known refl (rows_of writing.after) writing.told.changes is.after ∙ ap (changed_by (rows_of tables)) is.due.tells.changes
+
+    own : entry.changes ≡ (if entry.fault then [] else is.due.outcome.changes)
+    own =
+        of.changes
+        ∙ (has.changes
+        ∙ (ap (λ (l : List Change). if landed.answer.place.fault then [] else l) is.due.tells.changes
+        ∙ ap (λ (b : Bool). if b then [] else is.due.outcome.changes) (sym of.fault)))
 
     at_end : tables.archive_end ≡ stores_end (stores_of order) end
     at_end = stored_there disk_says rows end images begins masters order tables journal now
 
-    -- the reply is that of the depot that has run the order
-    pub reply_then : (since : ℕ) (start : List Deed) → begins since start → IsReplyOf (taken step start (map placed_of order)) request told
-    reply_then since start at = reply_after order tables journal now request told here since start at
+    used_is : (b : Bool) → held ≡ b → (if held then entry.end else end_after end order) ≡ tables'.archive_end
+    used_is true so = ap (λ (b : Bool). if b then entry.end else end_after end order) so ∙ of.end
+    used_is false so =
+        ap (λ (b : Bool). if b then entry.end else end_after end order) so
+        ∙ (sym now.end_is
+        ∙ sym (has.end ∙ ap (λ (l : List (List ℕ)). stores_end l tables.archive_end) (has.none (none so))))
 
-    -- where it changes something some row differs after it
-    pub changes_then : told.changes ≢ [] → (since : ℕ) (start : List Deed) → begins since start → ChangesRows (taken step start (map placed_of order)) request
-    changes_then some since start at =
-        let d = taken step start (map placed_of order) in
-        let stand = (now.ran since start at).stand in
-        made_differ (rows_of tables) d request due.outcome.changes stand (stands since start at d stand).changes (λ none. some (due.tells.changes ∙ none))
+    stores_are : (b : Bool) → held ≡ b → stores_of (order ++ entry ∷ []) ≡ stores_of order ++ landed.stored
+    stores_are true so = stores_touched order entry (at.touches ∙ so) ∙ ap (λ (l : List (List ℕ)). stores_of order ++ l) of.stores
+    stores_are false so = stores_spared order entry (at.touches ∙ so) ∙ sym (ap (λ (l : List (List ℕ)). stores_of order ++ l) (has.none (none so)) ∙ append-nil (stores_of order))
 
-    -- tables and a journal have run the order with its place, and the contents that it stored
-    pub committed_then : (held : Bool) (stored : List (List ℕ)) → (held ≡ false → stored ≡ []) → tables'.archive_end ≡ stores_end stored tables.archive_end → entry.stores ≡ stored → entry.end ≡ tables'.archive_end
-        → has_lane lanes archive_lane ≡ held → IsEntered rows end order placed (if held then entry.end else end_after end order)
+    pub committed_then : ((outcome : Outcome) → IsTold outcome writing.request.number writing.told → rows_of writing.after ≡ changed_by (rows_of tables) outcome.changes
+        → AreRowsAfter (rows_of tables) outcome.changes landed.answer.place.fault (rows_of tables'))
         → ((from : ℕ) (before : List (List ℕ)) (since : ℕ) (start : List Deed) (places : List Placed) (outcome : Outcome) → HasRunBeside disk_says images from before tables journal since start places
-        → tables.archive_end ≡ stores_end before from → IsProper request → IsOutcomeOf (rows_of tables) tables.archive_end request outcome → IsTold outcome request.number told
-        → rows_of after ≡ changed_by (rows_of tables) outcome.changes → HasRunBeside disk_says images from (before ++ stored) tables' journal' since start (with_place places request answer))
-        → ((d : List Deed) (c : Chronicle) (outcome : Outcome) → Stand (rows_of tables) d → IsProper request → IsOutcomeOf (rows_of tables) tables.archive_end request outcome → IsTold outcome request.number told
-        → HasGroups disk_says journal c → HasGroups disk_says journal' (grown (opens_generation request) answer.place.fault outcome.changes c))
-        → Ran (order ++ placed ∷ []) tables' journal'
-    committed_then held stored none new_end stores said touches entered ran grows =
-        committed order tables journal now tables' journal' can request due.outcome answer placed stored asks fault own_changes (rows_now due.outcome due.tells given)
-        (record { writes = entered.writes; rows_are = entered.rows_are; end_is = entered.end_is ∙ used_is held refl })
-        (new_end ∙ (ap (stores_end stored) at_end ∙ sym (ends_twice images end (stores_of order) stored)))
+        → tables.archive_end ≡ stores_end before from → IsProper writing.request → IsOutcomeOf (rows_of tables) tables.archive_end writing.request outcome → IsTold outcome writing.request.number writing.told
+        → rows_of writing.after ≡ changed_by (rows_of tables) outcome.changes → HasRunBeside disk_says images from (before ++ landed.stored) tables' journal' since start (with_place places writing.request landed.answer))
+        → ((d : List Deed) (c : Chronicle) (outcome : Outcome) → Stand (rows_of tables) d → IsProper writing.request → IsOutcomeOf (rows_of tables) tables.archive_end writing.request outcome → IsTold outcome writing.request.number writing.told
+        → HasGroups disk_says journal c → HasGroups disk_says journal' (grown (opens_generation writing.request) landed.answer.place.fault outcome.changes c))
+        → HasRunOrder disk_says rows end images begins masters (order ++ entry ∷ []) tables' journal'
+    committed_then rows_now ran grows =
+        let outcome = is.due.outcome in
+        let tells = is.due.tells in
+        committed disk_says rows end images begins masters order tables journal now tables' journal' can writing.request outcome landed.answer entry landed.stored of.asks of.fault own (rows_now outcome tells given)
+        (record { writes = at.entered.writes; rows_are = at.entered.rows_are; end_is = at.entered.end_is ∙ used_is held refl })
+        (has.end ∙ (ap (stores_end landed.stored) at_end ∙ sym (ends_twice images end (stores_of order) landed.stored)))
         (stores_are held refl) stands
-        (λ since start at. ran end (stores_of order) since start (map placed_of order) due.outcome (now.ran since start at) at_end (proper since start at) (stands since start at) due.tells given)
-        (λ since start at c has. grows (taken step start (map placed_of order)) c due.outcome (now.ran since start at).stand (proper since start at) (stands since start at) due.tells has)
-      where
-        used_is : (b : Bool) → held ≡ b → (if held then entry.end else end_after end order) ≡ tables'.archive_end
-        used_is true is = ap (λ (b : Bool). if b then entry.end else end_after end order) is ∙ said
-        used_is false is =
-            ap (λ (b : Bool). if b then entry.end else end_after end order) is
-            ∙ (sym now.end_is
-            ∙ sym (new_end ∙ ap (λ (l : List (List ℕ)). stores_end l tables.archive_end) (none is)))
+        (λ since start begun. ran end (stores_of order) since start (map placed_of order) outcome (now.ran since start begun) at_end (proper since start begun) (stands since start begun) tells given)
+        (λ since start begun c groups. grows (taken step start (map placed_of order)) c outcome (now.ran since start begun).stand (proper since start begun) (stands since start begun) tells groups)
 
-        stores_are : (b : Bool) → held ≡ b → stores_of (order ++ placed ∷ []) ≡ stores_of order ++ stored
-        stores_are true is = stores_touched order placed (touches ∙ is) ∙ ap (λ (l : List (List ℕ)). stores_of order ++ l) stores
-        stores_are false is = stores_spared order placed (touches ∙ is) ∙ sym (ap (λ (l : List (List ℕ)). stores_of order ++ l) (none is) ∙ append-nil (stores_of order))
+-- the count of the journal's disk has risen where it failed; without the archive's lane its disk isn't asked
+module _ {D : Type 0} {disk_says : DiskSays D} {rows : AllRows} {end : ℕ} {images : Files → Type 0} {begins : ℕ → List Deed → Type 0} {known order : List Taken} {held : Bool} {entry : Taken}
+    (at : IsWrittenAt disk_says rows end images begins known order held entry) {request : Request} {landed : Landed} {used : ℕ} (of : IsOfLanded request landed used entry)
+    {told : Told} {before now contents contents' : ℕ} (counted : AreCounted told landed before now contents contents') where
+  pub counted_then : told.unread ≡ false → before ≤ now → (held ≡ false → (contents ≡ 0) × (contents' ≡ 0)) → (first : ℕ) (marks : List Mark) → IsCountAfter is_unwritten first before known marks
+      → IsCountAfter is_unwritten first now (order ++ entry ∷ []) marks
+  counted_then read le still first marks was =
+      let unlost : held ≡ false → entry.lost ≡ false = λ none. of.lost ∙ never_fails contents contents' landed.lost (still none).0 (still none).1 (λ lost. counted.cause_contents lost read) in
+      count_placed is_unwritten first before now order entry marks le
+      (λ failed. let only = unwritten_only held entry at.touches unlost failed in counted.cause (sym of.fault ∙ only.0) (sym of.lost ∙ only.1)) (λ fine. counted.only (sym of.fault ∙ fine))
+      (count_quietly first before known order marks at.on was)
 
 -- the archive after a commit, whichever way that ended
 module _ {D : Type 0} (disk_says : DiskSays D)

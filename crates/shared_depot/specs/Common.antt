@@ -138,6 +138,13 @@ module _ {D : Type 0} (disk_says : DiskSays D) where
         → HasRunBeside disk_says images end (stores_of known) tables journal since start (map placed_of known)
         → HasRunBeside disk_says images end (stores_of known) tables journal since start (map placed_of order)
 
+  -- Behind an order a command has its place at which something was to be written: behind the beginning that the journal's lane knew nothing was; where the lock of
+  -- the archive is held the entry touches the archive's lane, and says how much of it is used.
+  pub record IsWrittenAt (rows : AllRows) (end : ℕ) (images : Files → Type 0) (begins : ℕ → List Deed → Type 0) (known order : List Taken) (held : Bool) (entry : Taken) : Type 0 where
+    pub on : GoesOnQuietly rows end images begins known order
+    pub touches : has_lane entry.lanes archive_lane ≡ held
+    pub entered : IsEntered rows end order entry (if held then entry.end else end_after end order)
+
 -- none of the places is that of a fault
 abbrev pub AreFaultless : List Taken → Type 0
 AreFaultless order = fault_count (map place_of order) ≡ 0

@@ -3,5 +3,5 @@ pub mod Common
 pub mod Sharing
 pub mod Replicas
 pub mod Room
-pub mod Ready
+pub mod Asked
 pub mod Link

@@ -1,10 +1,9 @@
 -- What a command has under the lock of the journal before it is committed, and what it is answered. This project's own choice.
-use Rattle.std.specs.Prelude.{◌≡◌, ◌⊎◌, ◌++◌, ℕ, Bool, true, false, IsTrue, IfSome, List, [], ◌∷◌, Option}
+use Rattle.std.specs.Prelude.{◌≡◌, ◌≢◌, ◌++◌, ℕ, Bool, true, false, IfSome, List, [], ◌∷◌, Option, Some, None}
 use Rattle.std.specs.Sync.Mutex.{mutex_guard_value}
 use Rattle.std.specs.declared.sync.MutexGuard.{MutexGuard}
 use Rattle.depot_commit.specs.command_core.declared.outcome.Outcome.{Outcome}
 use Rattle.depot_rows.specs.Standing.{Stand}
-use Rattle.depot_rows.specs.db_records.declared.change.Change.{Change}
 use Rattle.depot_rows.specs.db_records.declared.table.TableId.{TableId}
 use Rattle.depot_rows.specs.depot_model.Deeds.{Deed}
 use Rattle.depot_rows.specs.depot_model.declared.request.Request.{Request}
@@ -18,33 +17,22 @@ use Rattle.depot_commit.specs.Holding.{KeepContents}
 use Rattle.depot_commit.specs.Telling.{IsReplyOf, IsTold}
 use Rattle.depot_commit.specs.declared.telling.Told.{Told}
 use Rattle.depot_rows.specs.table_changes.Changed.{AllRows, changed_by, rows_of}
-use Rattle.table_locks.specs.Gathered.{Covers, HasSet}
-use Rattle.table_locks.specs.Prepared.{IsPrepared, are_held}
-use Rattle.table_locks.specs.declared.gathered.Gathered.{Gathered}
+use Rattle.table_locks.specs.Prepared.{IsPrepared}
 use Rattle.shared_depot.specs.Stored.{images_after, is_lost, stored_end}
-use Rattle.shared_depot.specs.declared.room.Room.{Room}
+use Rattle.shared_depot.specs.declared.writing.Writing.{Writing}
 
 -- if the lock of the archive is held, so much of the archive is used after the places that are known behind it
 abbrev pub IsEndKnown : ℕ → ℕ → Option (MutexGuard (List Taken)) → Type 0
 IsEndKnown end used archive = IfSome archive (λ guard. used ≡ end_after end (mutex_guard_value guard))
 
+-- it is held, and so much of the archive is used
+abbrev pub HoldsEnd : ℕ → ℕ → Option (MutexGuard (List Taken)) → Type 0
+HoldsEnd end used None = ⊥
+HoldsEnd end used (Some guard) = used ≡ end_after end (mutex_guard_value guard)
+
 -- behind the lock of the archive, if it is held, an order is known
 abbrev pub IsAtOrder : List Taken → Option (MutexGuard (List Taken)) → Type 0
 IsAtOrder order archive = IfSome archive (λ guard. mutex_guard_value guard ≡ order)
-
-module _ {N : Type 0} where
-  -- Room is made for what a command changes behind an order: the versions that are to follow, and the tables after the changes, twice.
-  pub record IsRoomFor (rows : AllRows) (order : List Taken) (told : Told) (room : Room N) : Type 0 where
-    pub prepared : IsPrepared rows told.changes room.prepared.items
-    pub after : (table : TableId) → rows_of room.after table ≡ changed_by (rows_after rows order) told.changes table
-    pub shown : rows_of room.shown ≡ rows_of room.after
-
-  -- What was gathered is still so after an order: the tables of the set are as they were seen, those of the changes are held, and if contents are stored,
-  -- the archive ends where it was seen to end.
-  pub record IsStillSo (rows : AllRows) (end : ℕ) (order : List Taken) (gathered : Gathered N) (changes : List Change) (stores : List (List ℕ)) : Type 0 where
-    pub set : (request : Request) → Covers gathered request → HasSet (rows_after rows order) (rows_of gathered.tables) request
-    pub held : IsTrue (are_held gathered.held.items changes)
-    pub end_is : (stores ≡ []) ⊎ (gathered.tables.archive_end ≡ end_after end order)
 
 module _ {S L : Type 0} where
   -- A command has its place behind an order: the archive's lane, if it is held, has learnt that, and what the entry says that it stored was stored. Where
@@ -76,3 +64,14 @@ pub record IsDueAfter (rows : AllRows) (end : ℕ) (images : Files → Type 0) (
   pub tells : IsTold outcome request.number told
   pub stands : StandsAfter rows end begins order request outcome
   pub reply : IsToldAfter end images begins order request outcome told
+
+module _ {N : Type 0} where
+  -- What a command has for its commit behind an order: room is made for what it changes, the versions that are to follow, and the tables after the changes, twice;
+  -- something changes, each content was read, and what is told is due.
+  pub record IsWritingFor (rows : AllRows) (end : ℕ) (images : Files → Type 0) (begins : ℕ → List Deed → Type 0) (order : List Taken) (writing : Writing N) : Type 0 where
+    pub prepared : IsPrepared rows writing.told.changes writing.held.items
+    pub after : (table : TableId) → rows_of writing.after table ≡ changed_by (rows_after rows order) writing.told.changes table
+    pub shown : rows_of writing.shown ≡ rows_of writing.after
+    pub some : writing.told.changes ≢ []
+    pub read : writing.told.unread ≡ false
+    pub due : IsDueAfter rows end images begins order writing.request writing.told

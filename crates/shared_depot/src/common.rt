@@ -1,12 +1,9 @@
 //! What lies behind the lock of the order.
-ghost use Rattle.std.specs.Prelude.{◌≡◌, ◌-◌, List, [], IfSome, IsSome};
+ghost use Rattle.std.specs.Prelude.{◌≡◌, ◌-◌, List, []};
 ghost use Rattle.depot_rows.specs.db_records.declared.table.TableId.{TableId};
-ghost use Rattle.depot_rows.specs.depot_model.declared.request.Request.{Request};
 ghost use Rattle.depot_rows.specs.table_changes.Changed.{rows_of};
 ghost use Rattle.locked_tables.specs.Known.{GoesOnWithout};
-ghost use Rattle.locked_tables.specs.Taken.{archive_lane, end_after, rows_after};
-ghost use Rattle.table_locks.specs.Confirmed.{IsConfirmed};
-ghost use Rattle.table_locks.specs.Gathered.{Covers, HasSet, IsShown};
+ghost use Rattle.locked_tables.specs.Taken.{archive_lane, end_after};
 ghost use Rattle.shared_depot.specs.Common.{GoesOnQuietly, WasRun};
 
 use crate::serving::Serving;
@@ -14,7 +11,6 @@ use depot_rows::tables::Tables;
 use locked_tables::{LockedArchive, LockedJournal, OrderWords, PlacedOrder};
 use outside_api::Disk;
 use std::marker::{Model, PhantomData};
-use table_locks::{Confirmed, Gathered};
 
 /// The order of all places, and the tables after them. Some tables and a journal have run exactly the
 /// commands of these places, and those at which nothing is written are the ones that don't touch the
@@ -51,22 +47,6 @@ impl<D: Disk, N: Serving> CommonDepot<D, N> {
             tables,
             of: PhantomData,
         }
-    }
-
-    /// What was gathered, where no table that was looked at was touched since.
-    pub(crate) fn confirm<'a>(
-        &mut self,
-        words: &OrderWords<N>,
-        gathered: Gathered<'a, N>,
-    ) -> Option<Confirmed<'a, N>>
-        requires { IsShown N.rows gathered }
-        ensures same { self.new ≡ self.old }
-        ensures confirmed { IfSome result (IsConfirmed N.rows self.old gathered.entry) }
-        ensures set { IfSome result (λ confirmed. (request : Request) → Covers gathered.entry request →
-            HasSet (rows_after N.rows self.old) (rows_of confirmed.tables) request) }
-        ensures always { gathered.entry.peeks.items ≡ [] → IsSome result }
-    {
-        gathered.confirm(words, &mut self.order)
     }
 
     /// The archive's lane learns the whole order, behind whose places that it knew none touches it.

@@ -4,12 +4,11 @@ ghost use Rattle.locked_tables.specs.Taken.{end_after};
 ghost use Rattle.depot_commit.specs.Telling.{IsTold, IsUnwritten};
 ghost use Rattle.depot_commit.specs.command_core.declared.outcome.Outcome.{Outcome};
 ghost use Rattle.shared_depot.specs.Common.{IsLostPlace};
-ghost use Rattle.shared_depot.specs.Ready.{IsQuietFor, MayTake};
+ghost use Rattle.shared_depot.specs.Asked.{MayTake};
 ghost use Rattle.shared_depot.specs.Room.{IsDueAfter};
 ghost use Rattle.shared_depot.specs.Sharing.{IsTakenAt};
 
 use crate::common::CommonDepot;
-use crate::ready::Quiet;
 use crate::serving::Serving;
 use depot_commit::{Told, place_unwritten};
 use depot_rows::model::{Answer, Request};
@@ -63,23 +62,5 @@ impl<D: Disk, N: Serving> CommonDepot<D, N> {
             place,
             reply: answer.reply,
         }
-    }
-}
-
-impl<'a, D: Disk, N: Serving> Quiet<'a, D, N> {
-    /// Gives the command its place, and all locks back.
-    pub(crate) fn take(
-        self,
-        words: &OrderWords<N>,
-        alloc: Global,
-        pass: &mut PartyPass<N>,
-        request: Request,
-    ) -> Answer
-        requires may { MayTake N.places N.begins pass.old request }
-        requires quiet { IsQuietFor N.rows N.end N.images N.begins request self }
-        ensures { IsTakenAt N.begins pass.old pass.new request result }
-    {
-        let Quiet { mut common, told } = self;
-        common.place_quiet(words, alloc, pass, &mut NoLane, 0, told, request)
     }
 }

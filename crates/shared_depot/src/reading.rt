@@ -1,10 +1,8 @@
 //! How the reply to a command is printed, with the contents that it waits for.
-ghost use Rattle.std.specs.Prelude.{◌≡◌, ℕ, List, None, [], IfOk, IfSome, IsSome, OnErr};
-ghost use Rattle.std.specs.Sync.Mutex.{mutex_guard_value};
+ghost use Rattle.std.specs.Prelude.{◌≡◌, IfOk, IfSome, OnErr};
 ghost use Rattle.depot_rows.specs.depot_model.declared.request.Request.{Request as AnyRequest};
-ghost use Rattle.locked_tables.specs.declared.taken.Taken.{Taken};
-ghost use Rattle.shared_depot.specs.Ready.{IfTold, IsReadingOf, MayTake};
-ghost use Rattle.shared_depot.specs.Room.{IsEndKnown, IsToldAfter};
+ghost use Rattle.shared_depot.specs.Asked.{IfTold, IsAsked, IsReadingOf, IsReplyOver};
+ghost use Rattle.shared_depot.specs.Room.{IsToldAfter};
 
 use crate::serving::Serving;
 use crate::shared::SharedDepot;
@@ -41,13 +39,10 @@ impl<D: Disk, N: Serving> StoredArchive<D, N> {
         number: u32,
         asked: &mut Option<Request>,
     ) -> Result<Reading, AllocError>
-        requires some { IsSome asked.old }
-        requires may { IfSome asked.old (MayTake N.places N.begins pass.old) }
-        requires number { IfSome asked.old (λ request. request.number ≡ number) }
+        requires { (is : IsAsked N.places N.begins pass.old asked.old) × (is.request.number ≡ number) }
         ensures reading { IfOk result (IsReadingOf N.begins pass.old pass.new asked.old asked.new outcome number) }
-        ensures same { IfOk result (IfTold (λ told. self.new ≡ self.old)) }
-        ensures reply { (request : AnyRequest) → request.number ≡ number →
-            IfOk result (IfTold (IsToldAfter N.end N.images N.begins self.old request outcome)) }
+        ensures over { IfOk result (IfTold (λ told. (self.new ≡ self.old) × ((request : AnyRequest) → request.number ≡ number →
+            IsToldAfter N.end N.images N.begins self.old request outcome told))) }
         ensures nothing { OnErr result ((pass.new ≡ pass.old) × (asked.new ≡ asked.old)) }
     {
         let told = tell_reading(alloc, &mut self.archive, outcome, number)?;
@@ -72,38 +67,33 @@ impl<D: Disk, N: Serving> StoredArchive<D, N> {
     }
 }
 
-/// Prints the reply of an outcome, with the contents that it waits for, if the lock of the archive is
-/// held. The one error is that of `tell`.
-pub(crate) fn tell_over<'a, R: Wait, D: Disk, N: Serving>(
-    rt: &R,
-    depot: &SharedDepot<D, N>,
-    alloc: Global,
-    pass: &mut PartyPass<N>,
-    archive: Option<MutexGuard<'a, StoredArchive<D, N>>>,
-    outcome: Outcome,
-    number: u32,
-    asked: &mut Option<Request>,
-) -> Result<(Reading, Option<MutexGuard<'a, StoredArchive<D, N>>>), AllocError>
-    requires none { archive ≡ None → outcome.reads ≡ [] }
-    requires some { IsSome asked.old }
-    requires may { IfSome asked.old (MayTake N.places N.begins pass.old) }
-    requires number { IfSome asked.old (λ request. request.number ≡ number) }
-    ensures reading { IfOk result (λ r. IsReadingOf N.begins pass.old pass.new asked.old asked.new outcome number r.0) }
-    ensures reply { (request : AnyRequest) (order : List Taken) → request.number ≡ number →
-        IfOk result (λ r. IfTold (λ told. IfSome r.1 (λ guard. order ≡ mutex_guard_value guard) →
-        IsToldAfter N.end N.images N.begins order request outcome told) r.0) }
-    ensures list { IfOk result (λ r. IfTold (λ told. (end used : ℕ) → IsEndKnown end used archive.entry →
-        IsEndKnown end used r.1) r.0) }
-    ensures nothing { OnErr result ((pass.new ≡ pass.old) × (asked.new ≡ asked.old)) }
-{
-    match archive {
-        None => {
-            let told = tell(alloc, outcome, number)?;
-            Ok((Reading::Told(told), None))
-        }
-        Some(mut guard) => {
-            let reading = guard.tell(rt, depot, alloc, pass, outcome, number, asked)?;
-            Ok((reading, Some(guard)))
-        }
+impl<D: Disk, N: Serving> SharedDepot<D, N> {
+    /// Prints the reply of an outcome, with the contents that it waits for; where it waits for some, or the
+    /// lock of the archive is held, under that lock. The one error is that of `tell`.
+    pub(crate) fn tell_over<'a, R: Wait>(
+        &'a self,
+        rt: &R,
+        alloc: Global,
+        pass: &mut PartyPass<N>,
+        archive: Option<MutexGuard<'a, StoredArchive<D, N>>>,
+        outcome: Outcome,
+        number: u32,
+        asked: &mut Option<Request>,
+    ) -> Result<(Reading, Option<MutexGuard<'a, StoredArchive<D, N>>>), AllocError>
+        requires { (is : IsAsked N.places N.begins pass.old asked.old) × (is.request.number ≡ number) }
+        ensures reading { IfOk result (λ r. IsReadingOf N.begins pass.old pass.new asked.old asked.new outcome number r.0) }
+        ensures over { IfOk result (λ r. IfTold (IsReplyOver N.end N.images N.begins archive.entry r.1 outcome number) r.0) }
+        ensures nothing { OnErr result ((pass.new ≡ pass.old) × (asked.new ≡ asked.old)) }
+    {
+        let mut guard = match archive {
+            None if outcome.reads.is_empty() => {
+                let told = tell(alloc, outcome, number)?;
+                return Ok((Reading::Told(told), None));
+            }
+            None => self.archive.lock(rt),
+            Some(guard) => guard,
+        };
+        let reading = guard.tell(rt, self, alloc, pass, outcome, number, asked)?;
+        Ok((reading, Some(guard)))
     }
 }

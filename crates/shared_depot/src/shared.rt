@@ -2,14 +2,12 @@
 ghost use Rattle.std.specs.Prelude.{◌≡◌, ◌<◌, ◌+◌, ℕ, List, length, IfOk, OnErr};
 ghost use Rattle.depot_rows.specs.depot_model.Deeds.{Deed};
 ghost use Rattle.session_loop.specs.Taking.{IsProper};
-ghost use Rattle.shared_depot.specs.Ready.{MayTake};
 ghost use Rattle.shared_depot.specs.Replicas.{IsReplicaTurn};
 ghost use Rattle.shared_depot.specs.Sharing.{IsTakenAt};
 
 use crate::both_marks::BothMarks;
 use crate::common::CommonDepot;
 use crate::of_archive::OfArchive;
-use crate::ready::Tried;
 use crate::serving::Serving;
 use crate::stored_archive::StoredArchive;
 use crate::written_journal::WrittenJournal;
@@ -59,37 +57,13 @@ impl<D: Disk, N: Serving> SharedDepot<D, N> {
         }
         let party = request.party;
         let number = request.number;
-        let answer = self.take_asked(rt, alloc, gate, pass, request)?;
-        gate.answered(party, number);
-        Ok(answer)
-    }
-
-    /// The same for a party that may have one more place; the gate isn't told that it was answered.
-    fn take_asked<R: Wait, G: Gate>(
-        &self,
-        rt: &R,
-        alloc: Global,
-        gate: &G,
-        pass: &mut PartyPass<N>,
-        request: Request,
-    ) -> Result<Answer, AllocError>
-        requires { MayTake N.places N.begins pass.old request }
-        ensures taken { IfOk result (IsTakenAt N.begins pass.old pass.new request) }
-        ensures nothing { OnErr result (pass.new ≡ pass.old) }
-    {
         let needs = request_needs(&request);
         let mut asked = Some(request);
-        match self.ready(rt, alloc, gate, pass, &needs, &mut asked) {
-            Err(error) => {
-                drop(asked);
-                Err(error)
-            }
-            Ok(Tried::Placed(answer)) => {
-                drop(asked);
-                Ok(answer)
-            }
-            Ok(Tried::Ready(ready)) => ready.take(rt, self, alloc, pass, asked.unwrap()),
-        }
+        let taken = self.take_asked(rt, alloc, gate, pass, &needs, &mut asked);
+        drop(asked);
+        let answer = taken?;
+        gate.answered(party, number);
+        Ok(answer)
     }
 
     /// Answers the next command of a replica, which is one of the parties, over the depot in files as

@@ -1,15 +1,12 @@
 //! What lies behind the lock of the journal.
 ghost use Rattle.std.specs.Prelude.{◌≡◌, [], IfOk};
-ghost use Rattle.depot_rows.specs.db_records.declared.table.TableId.{TableId};
-ghost use Rattle.depot_rows.specs.table_changes.Changed.{AllFitIn, changed_by, rows_of};
+ghost use Rattle.depot_rows.specs.table_changes.Changed.{rows_of};
 ghost use Rattle.disk_journal.specs.Stands.{disk_of};
-ghost use Rattle.locked_tables.specs.Taken.{rows_after};
 ghost use Rattle.shared_depot.specs.Common.{HasRunOrder};
 
 use crate::common::CommonDepot;
 use crate::serving::Serving;
 use depot_rows::changes::change_tables;
-use depot_rows::records::Change;
 use depot_rows::tables::Tables;
 use disk_journal::Journal;
 use locked_tables::{LockedJournal, OrderWords};
@@ -80,18 +77,5 @@ impl<D: Disk, N: Serving> WrittenJournal<D, N> {
         ensures learnt { self.new ≡ common.old }
     {
         common.learn_journal(words, &mut self.lane);
-    }
-
-    /// The tables after these changes. The one error is want of memory.
-    pub(crate) fn tables_after(
-        &self,
-        alloc: Global,
-        changes: &[Change],
-    ) -> Result<Tables, AllocError>
-        requires fit { AllFitIn (rows_after N.rows self.now) changes.now }
-        ensures rows { IfOk result (λ after. (table : TableId) →
-            rows_of after table ≡ changed_by (rows_after N.rows self.now) changes.now table) }
-    {
-        change_tables(alloc, &self.tables, changes)
     }
 }

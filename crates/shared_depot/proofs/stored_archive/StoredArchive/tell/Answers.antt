@@ -1,15 +1,10 @@
 use Rattle.std.proofs.Common.{◌≡◌, [], Option, List, refl, sym, ap, subst, inr, ◌∙◌, append-nil}
-use Rattle.std.specs.Prelude.{IfSome}
 use Rattle.std.proofs.lemmas.Bool.{true≢false}
+use Rattle.std.proofs.lemmas.Option.{same_Some}
 use Rattle.archive_file.specs.Archive.{disk_of}
-use Rattle.depot_commit.specs.Telling.{IsTold}
-use Rattle.depot_rows.specs.depot_model.declared.request.Request.{Request}
 use Rattle.locked_tables.specs.Taken.{end_after}
 use Rattle.locked_tables.specs.declared.taken.Taken.{Taken}
 use Rattle.shared_depot.specs.Common.{IsArchiveAfter, IsCountAfter, IsLostPlace}
-use Rattle.shared_depot.specs.Ready.{MayTake}
-use Rattle.shared_depot.specs.Room.{IsToldAfter}
-use Rattle.shared_depot.specs.Sharing.{IsTakenAt}
 use Rattle.shared_depot.specs.Stored.{is_lost}
 use Rattle.shared_depot.proofs.Marks.{count_learnt, count_on, count_placed}
 use Rattle.shared_depot.proofs.Order.{archive_learnt, archive_placed, archive_read}
@@ -41,40 +36,33 @@ invariant_of-self-then-not-is_unread g c =
 pub returns-then-not-is_unread-clause-reading : goal.returns-then-not-is_unread-clause-reading
 returns-then-not-is_unread-clause-reading g c = record { tells = c.in_ok-told.ensures.told; read = sym c.is_unread.ensures ∙ c.if-not-is_unread.true; same = refl; kept = refl }
 
-pub returns-then-not-is_unread-clause-reply : goal.returns-then-not-is_unread-clause-reply
-returns-then-not-is_unread-clause-reply g c = λ request number.
-    let D = g.D.Disk in
-    let was = c.self.invariant.0 in
-    subst (λ (l : List Taken). IsToldAfter g.N.Naming.end g.N.Imaging.images g.N.Serving.begins l request c.args.outcome c.in_ok-told.told) c.self.view_is
-    (λ since start at rows from d stand is kept.
-    let told = was.tells since start at in
-    let image = was.among told.0 (g.met.D.Disk.reads_an_image (disk_of c.self.inside.archive) told.0 told.1) in
-    c.in_ok-told.ensures.reply told.0 rows from d request told.1 number (kept.contents told.0 image) (is d stand))
+pub returns-then-not-is_unread-clause-over : goal.returns-then-not-is_unread-clause-over
+returns-then-not-is_unread-clause-over g c = (
+  c.self.view_is,
+  λ request number.
+      let D = g.D.Disk in
+      let was = c.self.invariant.0 in
+      rw (← c.self.view_is) (λ since start at rows from d stand is kept.
+      let told = was.tells since start at in
+      let image = was.among told.0 (g.met.D.Disk.reads_an_image (disk_of c.self.inside.archive) told.0 told.1) in
+      c.in_ok-told.ensures.reply told.0 rows from d request told.1 number (kept.contents told.0 image) (is d stand)),
+)
 
 -- ---- a content couldn't be read
 
-pub place_quiet-answer-requires-clause-may : goal.place_quiet-answer-requires-clause-may
-place_quiet-answer-requires-clause-may g c =
-    let is = sym c.take.ensures.value ∙ c.unwrap-request.ensures in
-    subst (λ (o : Option Request). IfSome o (MayTake g.N.Naming.places g.N.Serving.begins c.args.pass.now)) is c.requires.may
-
-pub place_quiet-answer-requires-clause-unwritten : goal.place_quiet-answer-requires-clause-unwritten
-place_quiet-answer-requires-clause-unwritten g c = inr (sym c.is_unread.ensures ∙ c.if-not-is_unread.false)
-
-pub place_quiet-answer-requires-clause-held : goal.place_quiet-answer-requires-clause-held
-place_quiet-answer-requires-clause-held g c = sym c.is_unread.ensures ∙ c.if-not-is_unread.false
-
-pub place_quiet-answer-requires-clause-due : goal.place_quiet-answer-requires-clause-due
-place_quiet-answer-requires-clause-due g c = λ read. absurd (true≢false (sym (sym c.is_unread.ensures ∙ c.if-not-is_unread.false) ∙ read))
-
-pub place_quiet-answer-requires-clause-end : goal.place_quiet-answer-requires-clause-end
-place_quiet-answer-requires-clause-end g c = λ held. c.end-end.ensures.end ∙ ap (end_after g.N.Naming.end) (c.learn_archive.ensures.learnt ∙ sym c.learn_archive.ensures.same)
-
-pub place_quiet-answer-requires-clause-tells : goal.place_quiet-answer-requires-clause-tells
-place_quiet-answer-requires-clause-tells g c =
-    let is = sym c.take.ensures.value ∙ c.unwrap-request.ensures in
-    let number = subst (λ (o : Option Request). IfSome o (λ request. request.number ≡ c.args.number)) is c.requires.number in
-    (c.args.outcome, subst (λ n. IsTold c.args.outcome n c.in_ok-told.told) (sym number) c.in_ok-told.ensures.told)
+pub place_quiet-answer-requires : goal.place_quiet-answer-requires
+place_quiet-answer-requires g c =
+    let asked = c.requires.0 in
+    let unread = sym c.is_unread.ensures ∙ c.if-not-is_unread.false in
+    rw (sym (same_Some _ _ (sym asked.is ∙ (sym c.take.ensures.value ∙ c.unwrap-request.ensures)))) (record {
+      may = asked.may;
+      unwritten = inr unread;
+      held = unread;
+      end = λ held. c.end-end.ensures.end ∙ ap (end_after g.N.Naming.end) (c.learn_archive.ensures.learnt ∙ sym c.learn_archive.ensures.same);
+      fits = λ held. c.end-end.ensures.fits;
+      tells = (c.args.outcome, rw c.requires.1 c.in_ok-told.ensures.told);
+      due = λ read. absurd (true≢false (sym unread ∙ read));
+    })
 
 pub invariant_of-self-2 : goal.invariant_of-self-2
 invariant_of-self-2 g c =
@@ -101,6 +89,4 @@ invariant_of-self-2 g c =
     )
 
 pub returns-clause-reading : goal.returns-clause-reading
-returns-clause-reading g c =
-    let is = sym c.take.ensures.value ∙ c.unwrap-request.ensures in
-    subst (λ (o : Option Request). IfSome o (λ request. IsTakenAt g.N.Serving.begins c.args.pass.now c.place_quiet-answer.new.pass request c.place_quiet-answer.result)) (sym is) c.place_quiet-answer.ensures.taken
+returns-clause-reading g c = rw (sym c.take.ensures.value ∙ c.unwrap-request.ensures) c.place_quiet-answer.ensures.taken

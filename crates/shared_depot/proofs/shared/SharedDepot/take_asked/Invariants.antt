@@ -1,5 +1,5 @@
 use Rattle.std.proofs.Common.{◌≡◌}
-use Rattle.shared_depot.proofs.shared.SharedDepot.look.Given as goal
+use Rattle.shared_depot.proofs.shared.SharedDepot.take_asked.Given as goal
 
 -- no attempt so far did anything
 abbrev pub invariant-loop-look : goal.invariant-loop-look
