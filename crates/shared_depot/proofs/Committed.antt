@@ -1,5 +1,5 @@
 -- What was committed behind a beginning of the order is committed behind the order, where nothing was written between the two.
-use Rattle.std.proofs.Common.{◌≡◌, ◌≢◌, ◌≤◌, ℕ, Bool, true, false, List, [], ◌∷◌, ◌++◌, Result, Ok, Err, map, refl, sym, ap, subst, ◌∙◌, append-nil}
+use Rattle.std.proofs.Common.{◌≡◌, ◌≤◌, ℕ, Bool, true, false, List, [], ◌∷◌, ◌++◌, Result, Ok, Err, map, refl, sym, ap, subst, ◌∙◌, append-nil}
 use Rattle.std.specs.Prelude.{if◌then◌else◌, IfOk, OnErr}
 use Rattle.std.proofs.lemmas.Bool.{true≢false}
 use Rattle.archive_file.specs.Archive.{disk_of as archive_disk_of}
@@ -22,7 +22,6 @@ use Rattle.locked_tables.specs.Taken.{archive_lane, end_after, journal_lane, pla
 use Rattle.locked_tables.specs.declared.taken.Taken.{Taken}
 use Rattle.order_words.specs.Lanes.{has_lane}
 use Rattle.order_words.specs.Seats.{Run}
-use Rattle.outside_api.specs.Count.{HasRisen}
 use Rattle.outside_api.specs.Disk.{Files}
 use Rattle.outside_api.specs.Says.{DiskSays}
 use Rattle.party_marks.specs.declared.mark.Mark.{Mark}
@@ -50,7 +49,7 @@ use Rattle.shared_depot.proofs.Marks.{count_learnt, count_placed, count_quietly}
 use Rattle.shared_depot.proofs.Order.{all_rows, archive_then, changed_here, outcome_here, run_more, stored_there}
 use Rattle.shared_depot.proofs.Outcomes.{reply_here}
 use Rattle.shared_depot.proofs.Quietly.{goes_on_quietly, quiet_more}
-use Rattle.shared_depot.proofs.Stored.{never_fails, stores_spared, stores_touched, unwritten_only}
+use Rattle.shared_depot.proofs.Stored.{lost_of, never_fails, stores_spared, stores_touched, unwritten_only}
 
 module _ {D : Type 0} (disk_says : DiskSays D)
     (rows : AllRows) (end : ℕ) (images : Files → Type 0) (begins : ℕ → List Deed → Type 0) (masters : Masters) where
@@ -169,6 +168,10 @@ pub record IsOfLanded (request : Request) (landed : Landed) (used : ℕ) (entry 
   pub stores : entry.stores ≡ landed.stored
   pub end : entry.end ≡ used
 
+pub of_taken : {request : Request} {landed : Landed} {used end lanes : ℕ} → end ≡ used
+    → IsOfLanded request landed used (record { request = request; fault = landed.answer.place.fault; lost = landed.lost; lanes = lanes; changes = landed.changes; end = end; stores = landed.stored })
+of_taken said = record { asks = refl; fault = refl; lost = refl; changes = refl; stores = refl; end = said }
+
 -- what follows a commit over tables and a journal that have run a beginning of the order
 module _ {D N : Type 0} {disk_says : DiskSays D} {rows : AllRows} {end : ℕ} {images : Files → Type 0} {begins : ℕ → List Deed → Type 0} {masters : Masters} {known : List Taken} {tables : Tables} {journal : Journal D}
     (was : HasRunOrder disk_says rows end images begins masters known tables journal) {writing : Writing N} (is : IsWritingFor rows end images begins known writing)
@@ -252,28 +255,18 @@ module _ {D : Type 0} {disk_says : DiskSays D} {rows : AllRows} {end : ℕ} {ima
       (λ failed. let only = unwritten_only held entry at.touches unlost failed in counted.cause (sym of.fault ∙ only.0) (sym of.lost ∙ only.1)) (λ fine. counted.only (sym of.fault ∙ fine))
       (count_quietly first before known order marks at.on was)
 
--- the archive after a commit, whichever way that ended
-module _ {D : Type 0} (disk_says : DiskSays D)
-    (end : ℕ) (images : Files → Type 0) (begins : ℕ → List Deed → Type 0) (faults_then : ℕ) (known known' : List Taken) (archive archive' : Archive D) where
-  abbrev Kept : List Taken → Archive D → Type 0
-  Kept list archive = IsArchiveAfter disk_says end images begins list archive
-
-  abbrev count_of : Archive D → ℕ
-  count_of a = disk_says.faults (archive_disk_of a)
-
-  -- and the count of its disk
-  abbrev Counted : List Taken → Archive D → List Mark → Type 0
-  Counted list archive marks = IsCountAfter is_lost faults_then (count_of archive) list marks
-
-  pub archive_committed : (marks : List Mark) → Kept known archive × Counted known archive marks → count_of archive ≤ count_of archive' → {T E Same : Type 0} (result : Result T E) → (Same → (archive' ≡ archive) × (known' ≡ known)) → OnErr result Same
-      → IfOk result (λ answer. IsStoredBehind (LearnsPlace archive_lane) true (λ stored old new. StoresBehind disk_says stored old new) count_of known known' archive archive') → Kept known' archive' × Counted known' archive' marks
-  archive_committed marks was le (Ok answer) same nothing stored =
-      let on = stored.learnt.behind in
-      subst (λ (l : List Taken). Kept l archive' × Counted l archive' marks) (sym stored.learnt.learnt) (
-        archive_then disk_says end images begins known stored.order archive archive' was.0 on stored.entry stored.touches stored.stored,
-        count_placed is_lost faults_then (count_of archive) (count_of archive') stored.order stored.entry marks le stored.caused stored.stand
-            (count_learnt faults_then (count_of archive) known stored.order marks on was.1),
-      )
-  archive_committed marks was le (Err error) same nothing stored =
-      let both = same nothing in
-      subst (λ (l : List Taken). Kept l archive' × Counted l archive' marks) (sym both.1) (subst (λ (a : Archive D). Kept known a × Counted known a marks) (sym both.0) was)
+-- the archive after a commit, whichever way that ended, and the count of its disk
+pub archive_committed : {D : Type 0} {disk_says : DiskSays D} {end : ℕ} {images : Files → Type 0} {begins : ℕ → List Deed → Type 0} {first : ℕ} {known known' : List Taken} {archive archive' : Archive D} {marks : List Mark}
+    → IsArchiveAfter disk_says end images begins known archive × IsCountAfter is_lost first (disk_says.faults (archive_disk_of archive)) known marks
+    → disk_says.faults (archive_disk_of archive) ≤ disk_says.faults (archive_disk_of archive') → {T E Same : Type 0} (result : Result T E) → (Same → (archive' ≡ archive) × (known' ≡ known)) → OnErr result Same
+    → IfOk result (λ answer. IsStoredBehind (LearnsPlace archive_lane) true (λ stored old new. StoresBehind disk_says stored old new) (λ (a : Archive D). disk_says.faults (archive_disk_of a)) known known' archive archive')
+    → IsArchiveAfter disk_says end images begins known' archive' × IsCountAfter is_lost first (disk_says.faults (archive_disk_of archive')) known' marks
+archive_committed {D} {disk_says} {end} {images} {begins} {first} {known} {known'} {archive} {archive'} {marks} was le (Ok answer) same nothing stored =
+    let before = disk_says.faults (archive_disk_of archive) in
+    let now = disk_says.faults (archive_disk_of archive') in
+    let on = stored.learnt.behind in
+    subst (λ (l : List Taken). IsArchiveAfter disk_says end images begins l archive' × IsCountAfter is_lost first now l marks) (sym stored.learnt.learnt) (
+      archive_then disk_says end images begins known stored.order archive archive' was.0 on stored.entry stored.touches stored.stored,
+      count_placed is_lost first before now stored.order stored.entry marks le (λ lost. stored.caused (lost_of stored.entry lost)) stored.stand (count_learnt first before known stored.order marks on was.1),
+    )
+archive_committed was le (Err error) same nothing stored = rw ((same nothing).1, (same nothing).0) was

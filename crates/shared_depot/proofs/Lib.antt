@@ -11,6 +11,6 @@ mod Committed
 mod Held
 mod Marks
 mod Turns
-mod Tried
+mod Told
 mod Places
 pub mod Links

@@ -22,10 +22,10 @@ use Rattle.outside_api.specs.Says.{DiskSays}
 use Rattle.depot_commit.specs.Committing.{AreRowsAfter, IsOutcomeOf}
 use Rattle.depot_commit.specs.Fetching.{IsRead}
 use Rattle.depot_commit.specs.Growing.{Chronicle, HasGroups}
-use Rattle.depot_commit.specs.Placing.{HasRunBeside, StoresBehind}
+use Rattle.depot_commit.specs.Placing.{EndsAt, HasRunBeside, StoresBehind}
 use Rattle.serial_depot.specs.Running.{CanTake, HasRun}
 use Rattle.depot_commit.specs.Running.{CanCommit}
-use Rattle.depot_commit.specs.Storing.{HasStored, stores_end}
+use Rattle.depot_commit.specs.Storing.{AllReach, HasStored, stores_end}
 use Rattle.depot_commit.specs.command_core.declared.outcome.Outcome.{Outcome}
 use Rattle.serial_depot.specs.declared.depot.SerialDepot.{SerialDepot}
 use Rattle.depot_commit.proofs.Moved.{over_moved}
@@ -196,6 +196,17 @@ module _ {D : Type 0} (disk_says : DiskSays D)
         room = behind.room;
         tells = λ since start at. let told = was.tells since start at in behind.tells told.0 told.1;
       }
+
+-- contents are stored in it behind those of the places that are known
+pub ends_at : {D : Type 0} {disk_says : DiskSays D} {end : ℕ} {images : Files → Type 0} {begins : ℕ → List Deed → Type 0} {known order : List Taken} {archive : Archive D}
+    → IsArchiveAfter disk_says end images begins known archive → known ≡ order → EndsAt disk_says archive (stored_end end order)
+ends_at {D} {disk_says} {end} {images} {begins} {known} {order} {archive} was here =
+    subst (EndsAt disk_says archive) (ap (stored_end end) here) (was.used, subst (AllReach (disk_says.may_leave (archive_disk_of archive))) was.used was.room)
+
+-- the rows are those after the places that are known
+pub rows_known : {D : Type 0} {disk_says : DiskSays D} {rows : AllRows} {end : ℕ} {images : Files → Type 0} {begins : ℕ → List Deed → Type 0} {masters : Masters} {known order : List Taken} {tables : Tables} {journal : Journal D}
+    → HasRunOrder disk_says rows end images begins masters known tables journal → known ≡ order → rows_of tables ≡ rows_after rows order
+rows_known {D} {disk_says} {rows} was here = (λ k table. was.rows_are table k) ∙ ap (rows_after rows) here
 
 -- ---- what the party is promised
 

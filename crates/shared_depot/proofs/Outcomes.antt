@@ -3,17 +3,15 @@ use Rattle.std.proofs.Common.{◌≡◌, ◌⊎◌, ◌∙◌, ℕ, true, List, 
 use Rattle.std.specs.Prelude.{IfSome}
 use Rattle.std.specs.Sync.Mutex.{mutex_guard_value}
 use Rattle.std.specs.declared.sync.MutexGuard.{MutexGuard}
-use Rattle.depot_commit.specs.command_core.Outcomes.{HasNeeded, IsFormedBy, IsOutcome}
+use Rattle.depot_commit.specs.command_core.Outcomes.{IsFormedBy, IsOutcome}
 use Rattle.depot_commit.specs.command_core.declared.outcome.Outcome.{Outcome}
 use Rattle.depot_rows.specs.depot_model.Deeds.{Deed}
-use Rattle.depot_rows.specs.depot_model.Rules.{IsSound}
 use Rattle.depot_rows.specs.depot_model.declared.request.Request.{Request}
 use Rattle.depot_rows.specs.Standing.{Stand}
 use Rattle.locked_tables.specs.Taken.{end_after, rows_after}
 use Rattle.locked_tables.specs.declared.taken.Taken.{Taken}
 use Rattle.needed_tables.proofs.Whole.{have_needed, outcome_alike, outcome_anywhere}
 use Rattle.needed_tables.specs.Needed.{AgreeOnNeeded}
-use Rattle.session_loop.specs.Taking.{IsProper}
 use Rattle.depot_rows.specs.table_changes.Changed.{AllRows, rows_of}
 use Rattle.table_locks.specs.Gathered.{Covers, HasSet}
 use Rattle.table_locks.specs.Prepared.{are_held}

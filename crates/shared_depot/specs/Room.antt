@@ -18,7 +18,7 @@ use Rattle.depot_commit.specs.Telling.{IsReplyOf, IsTold}
 use Rattle.depot_commit.specs.declared.telling.Told.{Told}
 use Rattle.depot_rows.specs.table_changes.Changed.{AllRows, changed_by, rows_of}
 use Rattle.table_locks.specs.Prepared.{IsPrepared}
-use Rattle.shared_depot.specs.Stored.{images_after, is_lost, stored_end}
+use Rattle.shared_depot.specs.Stored.{images_after, stored_end}
 use Rattle.shared_depot.specs.declared.writing.Writing.{Writing}
 
 -- if the lock of the archive is held, so much of the archive is used after the places that are known behind it
@@ -43,7 +43,7 @@ module _ {S L : Type 0} where
     pub learnt : Learns order (order ++ entry ∷ []) lane lane'
     pub touches : has_lane entry.lanes archive_lane ≡ held
     pub stored : stores entry.stores store store'
-    pub caused : is_lost entry ≡ true → HasRisen (faults store) (faults store')
+    pub caused : entry.lost ≡ true → HasRisen (faults store) (faults store')
     pub stand : entry.fault ≡ false → faults store' ≡ faults store
 
 -- the outcome is the request's over the tables after the order, from each depot from which the run began

@@ -184,7 +184,7 @@ impl<D: Disk, N: Serving> WrittenJournal<D, N> {
         let common = &mut *guard;
         let order = &mut common.order;
         let held = held.as_mut_slice();
-        let _lanes = order.place(&depot.words, held, lane, &mut self.lane, pass, taken);
+        order.place(&depot.words, held, lane, &mut self.lane, pass, taken);
         show(&mut common.tables, shown, fault);
         Ok(Answer {
             place: at,

@@ -3,7 +3,4 @@ use Rattle.shared_depot.proofs.shared.SharedDepot.take_asked.Given as goal
 
 -- no attempt so far did anything
 abbrev pub invariant-loop-look : goal.invariant-loop-look
-invariant-loop-look g l = record {
-  pass : l.pass ≡ l.fn.pass;
-  asked : l.asked ≡ l.fn.asked;
-}
+invariant-loop-look g l = (l.pass ≡ l.fn.pass) × (l.asked ≡ l.fn.asked)

@@ -1,5 +1,5 @@
 use Rattle.std.proofs.Common.{◌∙◌}
-use Rattle.shared_depot.proofs.Tried.{IfTold_then}
+use Rattle.shared_depot.proofs.Told.{IfTold_then}
 use Rattle.shared_depot.proofs.shared.SharedDepot.tell_over.Goals.{in-None-2, in-Some}
 use Rattle.shared_depot.proofs.shared.SharedDepot.tell_over.Goals as goal
 

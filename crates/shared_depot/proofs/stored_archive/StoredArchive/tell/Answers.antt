@@ -1,4 +1,4 @@
-use Rattle.std.proofs.Common.{◌≡◌, [], Option, List, refl, sym, ap, subst, inr, ◌∙◌, append-nil}
+use Rattle.std.proofs.Common.{[], List, refl, sym, ap, subst, inr, ◌∙◌, append-nil}
 use Rattle.std.proofs.lemmas.Bool.{true≢false}
 use Rattle.std.proofs.lemmas.Option.{same_Some}
 use Rattle.archive_file.specs.Archive.{disk_of}
