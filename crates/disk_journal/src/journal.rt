@@ -1,6 +1,6 @@
 //! The journal of one generation, and the group that may be in doubt.
 
-ghost use Rattle.std.specs.Prelude.{◌≡◌, ◌≢◌, ◌⊎◌, ◌+◌, ◌*◌, ◌<◌, ◌≤◌, ◌^◌, ℕ, List, [], ◌∷◌, ◌++◌, length, OnOk, IfOk, IsErr};
+ghost use Rattle.std.specs.Prelude.{◌≡◌, ◌≢◌, ◌⊎◌, ◌+◌, ◌*◌, ◌<◌, ◌≤◌, ◌^◌, ℕ, List, [], ◌∷◌, ◌++◌, length, OnOk, IfOk, IsErr, IsTrue, ◌↔◌};
 ghost use Rattle.outside_api.specs.Count.{HasCause, counted};
 ghost use Rattle.outside_api.specs.Disk.{Files, After, Follows};
 ghost use Rattle.outside_api.specs.Moments.{LeavesOnly};
@@ -22,7 +22,7 @@ const OPEN: u8 = b'e';
 const CLOSED: u8 = b'm';
 
 /// What a failed call may or may not have made count.
-#[derive(Clone, Copy, Drop)]
+#[derive(Clone, Copy, Drop, PartialEq, Eq)]
 pub(crate) enum Doubt {
     /// Nothing.
     Nothing,
@@ -173,6 +173,13 @@ impl<D: Disk> Journal<D> {
             generation: self.end.generation,
             group: self.end.groups,
         })
+    }
+
+    /// Whether a group or a generation may or may not count.
+    pub fn in_doubt(&self) -> bool
+        ensures { (was : Committed) (doubt : Doubtful) → Stands D.says self.now was doubt → IsTrue result ↔ (doubt ≢ nothing) }
+    {
+        self.doubt != Doubt::Nothing
     }
 
     /// Closes the mark that is in doubt. Makes no call of the disk where nothing is in doubt.

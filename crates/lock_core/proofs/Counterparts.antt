@@ -1,19 +1,20 @@
 -- The parties of the code are those of the machine: what they own, for what they wait, and what they become.
-use Rattle.std.proofs.Common.{◌≡◌, ℕ, zero, suc, Bool, true, false, not, List, [], ◌∷◌, ◌++◌, map, reverse, take, drop, set, Option, Some, None, refl, sym, ap, subst, ◌∙◌, length}
+use Rattle.std.proofs.Common.{◌≡◌, ℕ, zero, suc, Bool, true, false, not, List, [], ◌∷◌, ◌++◌, map, reverse, take, drop, set, Option, Some, None, refl, sym, ap, subst, ◌∙◌, length, arith}
 use Rattle.std.specs.Prelude.{slice_get, unwrap_or, ◌&&◌, ◌||◌}
 use Rattle.std.specs.List.{list_any}
+use Rattle.std.proofs.lemmas.Bool.{lt-ltb}
 use Rattle.std.proofs.lemmas.List.{reverse-append, map-append}
 use Rattle.depot_rows.specs.depot_model.Deeds.{Deed}
 use Rattle.depot_rows.specs.depot_model.Tables as model_need
 use Rattle.depot_rows.specs.depot_model.declared.lock.LockId.{LockId}
 use Rattle.depot_rows.specs.depot_model.declared.lock.LockId.TheVariants.{Journal}
 use Rattle.depot_rows.specs.depot_model.declared.request.Request.{Request}
-use Rattle.lock_core.specs.Core.{wait_in, wait_at, may_wait, AreShown, Shows}
-use Rattle.lock_machine.specs.Machine.{is_lock, Seen, Commit, State, owns_seen, has_judged, owns_at, owns_by, owns, next_lock, may_work, may_go, may_party, is_enabled}
+use Rattle.lock_core.specs.Core.{wait_in, wait_at, may_wait, is_waiting, is_working, AreShown, Shows}
+use Rattle.lock_machine.specs.Machine.{is_lock, Seen, Commit, State, owns_seen, has_judged, owns_at, owns_by, owns, next_lock, may_work, may_go, may_party, is_enabled, is_unfinished}
 use Rattle.lock_machine.specs.Machine as model
 use Rattle.lock_core.specs.Parties.{IsShownBy, IsShownAs, IsShown, holds, holds_by, waits_by, wait_of}
 use Rattle.command_needs.specs.Sets.{locks_in, need_in}
-use Rattle.lock_core.specs.Works.{IsWorkShown, holds_taken, holds_lock, waits_at, next_of}
+use Rattle.lock_core.specs.Works.{IsWorkShown, holds_taken, holds_lock, waits_for, waits_at, next_of}
 use Rattle.lock_core.specs.declared.machine.LockCore.{LockCore}
 use Rattle.lock_core.specs.declared.party.Party.{Party}
 use Rattle.command_needs.specs.declared.needs.Needs.{Needs}
@@ -156,7 +157,31 @@ enabled_same start core s i shows = go (slice_get core.parties.items i) refl
         (λ k. may_wait core.parties.items (wait_in (at_i k)))
         ∙ (may_as s.order core.parties.items s.parties shows.parties p.left.items p.work its.0 its.2 ∙ ap (may_party s.parties) (sym its.1))
 
--- how many there are
+-- so are those that have a command at hand or left
+working_as : (order : List Commit) (left : List Work) (work : Option Work) (q : model.Party) → IsShownAs order left work q → is_waiting (waits_by left work) ≡ is_unfinished q
+working_as order left work q h = go left work q.left q.work h.left_is h.work_is
+  where
+    waits_for_some : (wait : Option LockId) → is_waiting (wait_of wait) ≡ true
+    waits_for_some None = refl
+    waits_for_some (Some lock) = refl
+
+    go : (left : List Work) (work : Option Work) (lefts : List Request) (its : Option model.Work) → map (λ (w : Work). w.request) (reverse left) ≡ lefts → IsShownBy order work its
+        → is_waiting (waits_by left work) ≡ is_unfinished (record { left = lefts; work = its })
+    go left (Some w) lefts (Some v) is shown = waits_for_some (waits_for w)
+    go left (Some w) lefts None is shown = absurd shown
+    go left None lefts (Some v) is shown = absurd shown
+    go [] None [] None is shown = refl
+    go [] None (r ∷ lefts) None is shown = absurd cc
+    go (x ∷ left) None [] None is shown = absurd (never_empty order x left is)
+    go (x ∷ left) None (r ∷ lefts) None is shown = sym (lt-ltb 0 (length (r ∷ lefts)) (omega arith))
+
+pub unfinished_same : (order : List Commit) (ps : List Party) (qs : List model.Party) → AreShown order ps qs → list_any is_working ps ≡ list_any is_unfinished qs
+unfinished_same order [] [] all = refl
+unfinished_same order [] (q ∷ qs) all = absurd all
+unfinished_same order (p ∷ ps) [] all = absurd all
+unfinished_same order (p ∷ ps) (q ∷ qs) all = λ k. working_as order p.left.items p.work q all.0 k || unfinished_same order ps qs all.1 k
+
+-- and how many there are
 pub same_length : (order : List Commit) (ps : List Party) (qs : List model.Party) → AreShown order ps qs → length ps ≡ length qs
 same_length order [] [] all = refl
 same_length order [] (q ∷ qs) all = absurd all

@@ -41,6 +41,11 @@ may_wait parties Never = false
 may_wait parties Now = true
 may_wait parties (For lock) = not (list_any (holds lock) parties)
 
+abbrev pub is_waiting : Wait → Bool
+is_waiting Never = false
+is_waiting Now = true
+is_waiting (For lock) = true
+
 -- the request of the command that it has at hand
 abbrev pub request_by : Option Work → Option Request
 request_by None = None
@@ -49,6 +54,10 @@ request_by (Some w) = Some w.request
 abbrev pub request_in : Option Party → Option Request
 request_in None = None
 request_in (Some p) = request_by p.work
+
+-- whether it has a command at hand or left
+abbrev pub is_working : Party → Bool
+is_working p = is_waiting (waits p)
 
 -- ---- the machine's
 

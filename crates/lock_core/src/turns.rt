@@ -4,8 +4,8 @@ ghost use Rattle.std.specs.Prelude.{◌≡◌, not, IfOk, OnErr, List};
 ghost use Rattle.std.specs.List.{list_any};
 ghost use Rattle.depot_rows.specs.depot_model.Deeds.{Deed};
 ghost use Rattle.depot_rows.specs.depot_model.declared.request.Request.{Request as ModelRequest};
-ghost use Rattle.lock_machine.specs.Machine.{State};
-ghost use Rattle.lock_core.specs.Core.{IsAsBefore, IsCommit, IsTurn, Shows, may_wait, wait_at};
+ghost use Rattle.lock_machine.specs.Machine.{State, is_enabled, is_unfinished};
+ghost use Rattle.lock_core.specs.Core.{IsAsBefore, IsCommit, IsTurn, Shows, is_working, may_wait, wait_at};
 ghost use Rattle.lock_core.specs.Parties.{holds};
 
 use crate::machine::LockCore;
@@ -21,6 +21,30 @@ fn any_owns(parties: &[Party], lock: LockId) -> bool
 {
     for party in parties {
         if party.owns(lock) {
+            return true;
+        }
+    }
+    false
+}
+
+impl Party {
+    /// Whether it has a command at hand or left.
+    fn is_working(&self) -> bool
+        ensures { result ≡ is_working self.now }
+    {
+        match self.waits() {
+            Wait::Never => false,
+            Wait::Now | Wait::For(_) => true,
+        }
+    }
+}
+
+/// Whether one of these parties has a command at hand or left.
+fn any_working(parties: &[Party]) -> bool
+    ensures { result ≡ list_any is_working parties.now }
+{
+    for party in parties {
+        if party.is_working() {
             return true;
         }
     }
@@ -61,6 +85,20 @@ impl LockCore {
             Wait::Now => true,
             Wait::For(lock) => self.is_free(lock),
         }
+    }
+
+    /// Whether the next event of a party is enabled.
+    pub fn enabled(&self, party: u32) -> bool
+        ensures { (start : List Deed) (s : State) → Shows start self.now s → result ≡ is_enabled s party }
+    {
+        self.may_go(party)
+    }
+
+    /// Whether some party has a command at hand or left.
+    pub fn unfinished(&self) -> bool
+        ensures { (start : List Deed) (s : State) → Shows start self.now s → result ≡ list_any is_unfinished s.parties }
+    {
+        any_working(&self.parties)
     }
 
     /// Makes a party's event, if it is enabled; but its commit, for which it answers the outcome, is left to `finish`.
