@@ -300,6 +300,18 @@ def client_of(head: bytes) -> bytes:
     return names[0]
 
 
+def head_of(name: str) -> tuple[str, str]:
+    """The first line of the script of a session, and the client that it names. Stop says that there is no such line."""
+    head = read_file(name, MAX_LINE + 1).partition(b"\n")[0]
+    try:
+        client = client_of(head)
+    except _Bad as bad:
+        raise Stop(f"{name}: {bad.args[1]}")
+    if head.startswith(b"replica "):
+        raise Stop(f"{name}: a replica changes nothing: take a session of your own client")
+    return head.decode(), client.decode()
+
+
 # ---- replies
 
 
@@ -348,6 +360,27 @@ def read_session(name: str) -> tuple[Script, Replies]:
     if not os.path.exists(replies_name(name)):
         raise Stop(f"{replies_name(name)}: no replies are there: run the session first, as ./laitsjop serve {name}")
     return script, read_replies(script.commands, read_file(replies_name(name)))
+
+
+class Printed(NamedTuple):
+    """A file whose content a session printed."""
+
+    row: Row  # the last one with a content
+    path: Optional[str]  # in the client, where a reply of the session tells it
+
+    @property
+    def is_executable(self) -> bool:
+        return "x" in (self.row.get("type") or "").partition("+")[2]
+
+
+def printed_files(name: str) -> dict[str, Printed]:
+    """The files that a session printed, by their paths in the depot. Stop says that its replies aren't whole."""
+    _, (replies, fault) = read_session(name)
+    if fault:
+        raise Stop(f"{name}: {fault}: nothing is written")
+    rows = [(row.get("depotFile"), row) for reply in replies for row in reply.rows]
+    paths = {file: row.get("clientFile") for file, row in rows if file and row.get("clientFile")}
+    return {file: Printed(row, paths.get(file)) for file, row in rows if file and row.content is not None}
 
 
 class _ReplyReader:
