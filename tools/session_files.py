@@ -91,6 +91,7 @@ class Script:
         self.pieces: list[bytes] = []
         self.size = 0
         self.opened: dict[str, list[str]] = {}  # paths that aren't submitted yet, by the command that opens them
+        self.had: list[str] = []  # those of them that the client is to have at a revision, with it
         self.count = 0  # of all paths
         self.line(head)
 
@@ -121,20 +122,24 @@ class Script:
             line, count = f"{line} {argument}", count + 1
         self.line(line)
 
-    def open(self, command: str, path: str, content: Optional[bytes] = None) -> None:
-        """Opens a path by a command, with the content that it gets."""
+    def open(self, command: str, path: str, content: Optional[bytes] = None, revision: Optional[str] = None) -> None:
+        """Opens a path by a command, with the content that it gets, at the revision that the client is to have."""
         if content is not None:
             self.block(f"file {path}", content)
+        if revision is not None:
+            self.had.append(f"{path}#{revision}")
         self.opened.setdefault(command, []).append(path)
         self.count += 1
         if self.count % MAX_FILES == 0:
             self.submit()
 
     def submit(self) -> None:
+        if self.had:
+            self.command("p4 sync", self.had)
         for command in sorted(self.opened):
             self.command(command, self.opened[command])
         self.line(f'p4 submit -d "{self.text}"')
-        self.opened = {}
+        self.opened, self.had = {}, []
 
     def write(self) -> None:
         """Ends the script, and writes it to standard output."""
